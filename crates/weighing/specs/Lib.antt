@@ -1,0 +1,4 @@
+pub mod Semirings
+pub mod Laws
+pub mod Tests
+pub mod Charges
