@@ -1,0 +1,4 @@
+pub mod Lists
+pub mod Scopes
+pub mod Books
+pub mod Refusals
