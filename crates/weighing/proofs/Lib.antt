@@ -1,0 +1,5 @@
+pub mod Ranges
+pub mod YesNoLaws
+pub mod CostLaws
+pub mod GradeLaws
+pub mod Gathers

@@ -27,6 +27,11 @@ module _ {W : Type 0} (o : Operations W) where
   either-over [] = o .none
   either-over (w ∷ ws) = o .either w (either-over ws)
 
+  -- the both over a list of weights; over no weights it is free
+  unfoldable pub both-over : List W → W
+  both-over [] = o .free
+  both-over (w ∷ ws) = o .both w (both-over ws)
+
   -- a is better than b: they differ, and their either is a
   pub record Better (a b : W) : Type 0 where
     pub differ : a ≡ b → ⊥

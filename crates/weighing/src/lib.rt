@@ -3,8 +3,22 @@ ghost use mathlib.Core.Path.{_≡_};
 ghost use Rattle.weighing.specs.Laws.{Algebra, Lawful};
 ghost use Rattle.weighing.specs.Tests.{Tells};
 
+mod amount;
 mod charge;
+mod cost;
+mod grade;
+mod sums;
+mod yes_no;
+pub use amount::Amount;
 pub use charge::Charge;
+pub use cost::Cost;
+pub use cost::CostWeighing;
+pub use grade::Grade;
+pub use grade::GradeWeighing;
+pub use sums::either_over;
+pub use sums::weigh_all;
+pub use yes_no::YesNo;
+pub use yes_no::YesNoWeighing;
 
 // A weighing (a commutative semiring whose plus selects). Its weights are the values of the type itself; in
 // cells and outputs they lie as plain values.
@@ -13,7 +27,7 @@ pub trait Weighing: Copy {
 
     ghost algebra: { Algebra Self Self·Plain };
 
-    ghost lawful: { Lawful algebra };
+    law lawful: { Lawful algebra };
 
     // The weight of what is not permitted.
     fn none() -> Self
@@ -47,3 +61,6 @@ pub trait Weighing: Copy {
     fn from_plain(value: Self::Plain) -> Self
         ensures { λ r. ⌜ r ≡ algebra .read value ⌝ };
 }
+
+#[cfg(test)]
+mod tests;
