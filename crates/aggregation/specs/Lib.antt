@@ -1,0 +1,13 @@
+pub mod Sets
+pub mod Rows
+pub mod Sums
+pub mod Nets
+pub mod Trees
+pub mod Orders
+pub mod Listing
+pub mod Relations
+pub mod RelationClaims
+pub mod TreeClaims
+pub mod ListingClaims
+pub mod Claims
+pub mod Examples
