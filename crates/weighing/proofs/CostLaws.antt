@@ -35,8 +35,9 @@ inside y z c = omega arith
 
 twice : (y z c : ℕ) → min (min y z) c ≡ min (min (min y c) (min z c)) c
 twice y z c = sym (ap (λ n. min n c) (inside y z c) ∙ over (min y z) c)
-  where over : (n c : ℕ) → min (min n c) c ≡ min n c
-        over n c = omega arith
+  where
+    over : (n c : ℕ) → min (min n c) c ≡ min n c
+    over n c = omega arith
 
 -- `omega` decides each equation between the values
 of-eq : (x y : Amount) → x .value ≡ y .value → _≡_ {A = Cost} (Of x) (Of y)
@@ -80,8 +81,8 @@ distributes (Of x) None c = refl
 distributes (Of x) (Of y) None = refl
 distributes (Of x) (Of y) (Of z) =
     of-eq _ _ (late (x .value) (min (y .value) (z .value)) 1000000000
-      ∙ ap (λ n. min n 1000000000) (spread (x .value) (y .value) (z .value))
-      ∙ twice (x .value + y .value) (x .value + z .value) 1000000000)
+    ∙ ap (λ n. min n 1000000000) (spread (x .value) (y .value) (z .value))
+    ∙ twice (x .value + y .value) (x .value + z .value) 1000000000)
 
 least : (m n : ℕ) → (min m n ≡ m) ⊎ (min m n ≡ n)
 least m n = ⊎-elim (λ h. inl (omega arith)) (λ h. inr (omega arith)) (cases-lt m n)

@@ -6,9 +6,8 @@ use lib.ListN.{length, getD, drop}
 use Rattle.std.proofs.shelf.Lists.{at-drop-more, at-drop-all}
 
 module _ {X W : Type 0} (f : W → W → W) (e : W) (weight : X → W) (F : List X → W)
-  (nil : F [] ≡ e) (cons : (x : X) (xs : List X) → F (x ∷ xs) ≡ f (weight x) (F xs))
-  (assoc : (a b c : W) → f (f a b) c ≡ f a (f b c)) (comm : (a b : W) → f a b ≡ f b a) (unit : (a : W) → f e a ≡ a) where
-
+    (nil : F [] ≡ e) (cons : (x : X) (xs : List X) → F (x ∷ xs) ≡ f (weight x) (F xs))
+    (assoc : (a b c : W) → f (f a b) c ≡ f a (f b c)) (comm : (a b : W) → f a b ≡ f b a) (unit : (a : W) → f e a ≡ a) where
   pub gathers-more : (xs : List X) (i : ℕ) (x : X) (acc next : W) → i < length xs → x ≡ getD xs i x → next ≡ f acc (weight x) →
       f acc (F (drop i xs)) ≡ F xs → f next (F (drop (i + 1) xs)) ≡ F xs
   gathers-more xs i x acc next h is more inv =

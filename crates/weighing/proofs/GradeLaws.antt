@@ -54,9 +54,9 @@ lower-none x = grade-eq _ _ (omega arith)
 distributes : (x y z : Grade) → lower x (higher y z) ≡ higher (lower x y) (lower x z)
 distributes x y z =
     grade-eq _ _ (ap (λ n. min n 1000001)
-      (ap (λ n. min (x .value) n) (uncut-max y z)
-      ∙ min-max (x .value) (y .value) (z .value)
-      ∙ sym (ap (λ n. max n (min (min (x .value) (z .value)) 1000001)) (uncut-min x y) ∙ ap (λ n. max (min (x .value) (y .value)) n) (uncut-min x z))))
+    (ap (λ n. min (x .value) n) (uncut-max y z)
+    ∙ min-max (x .value) (y .value) (z .value)
+    ∙ sym (ap (λ n. max n (min (min (x .value) (z .value)) 1000001)) (uncut-min x y) ∙ ap (λ n. max (min (x .value) (y .value)) n) (uncut-min x z))))
 
 selects : (x y : Grade) → (higher x y ≡ x) ⊎ (higher x y ≡ y)
 selects x y =

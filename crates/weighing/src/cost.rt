@@ -21,7 +21,9 @@ const NO_COST: u32 = u32::MAX;
 fn cut(number: u32) -> Amount
     ensures { λ r. ⌜ r ≡ amount number ⌝ }
 {
-    Amount { value: number.min(MOST) }
+    Amount {
+        value: number.min(MOST),
+    }
 }
 
 impl Cost {
@@ -96,6 +98,10 @@ pub impl Weighing for Cost as CostWeighing {
     }
 
     fn from_plain(value: u32) -> Cost {
-        if value <= MOST { Cost::Of(cut(value)) } else { Cost::None }
+        if value <= MOST {
+            Cost::Of(cut(value))
+        } else {
+            Cost::None // no amount's plain value
+        }
     }
 }

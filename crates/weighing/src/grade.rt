@@ -8,4 +8,5 @@ pub struct Grade {
 }
 
 mod weighs;
+
 pub use weighs::GradeWeighing;

@@ -9,6 +9,7 @@ mod cost;
 mod grade;
 mod sums;
 mod yes_no;
+
 pub use amount::Amount;
 pub use charge::Charge;
 pub use cost::Cost;

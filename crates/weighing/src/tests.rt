@@ -11,7 +11,12 @@ use std::test::*;
 fn a_sum_of_costs_is_cut_at_the_limit() -> Result<(), Fail> {
     let most = Cost::from_plain(1_000_000_000);
     check_eq(most.both(Cost::from_plain(1)).amount(), Some(1_000_000_000))?;
-    check_eq(Cost::from_plain(999_999_999).both(Cost::from_plain(1)).amount(), Some(1_000_000_000))
+    check_eq(
+        Cost::from_plain(999_999_999)
+            .both(Cost::from_plain(1))
+            .amount(),
+        Some(1_000_000_000),
+    )
 }
 
 #[test]

@@ -11,7 +11,9 @@ const MOST: u32 = 1_000_001;
 fn cut(number: u32) -> Grade
     ensures { λ r. ⌜ r ≡ grade number ⌝ }
 {
-    Grade { value: number.min(MOST) }
+    Grade {
+        value: number.min(MOST),
+    }
 }
 
 impl Grade {

@@ -15,7 +15,7 @@ loop-weight-again g c =
     let o = g .W·Weighing .algebra .ops in
     let s = g .W·Weighing·met .lawful .semiring in
     gathers-more (o .either) (o .none) (λ w. w) (either-over o) refl (λ w ws. refl) (s .either-assoc) (s .either-comm) (s .either-none)
-      (c .args .weights .now) (c .loop-weight .weight-index) (c .weight-item .result) (c .loop-weight .total) (c .either-total .result) (omega arith) (c .weight-item .is) (c .either-total .ensures) (c .loop-weight .inv)
+    (c .args .weights .now) (c .loop-weight .weight-index) (c .weight-item .result) (c .loop-weight .total) (c .either-total .result) (omega arith) (c .weight-item .is) (c .either-total .ensures) (c .loop-weight .inv)
 
 pub returns : need.returns
 unfolding either-over
@@ -23,4 +23,4 @@ returns g c =
     let o = g .W·Weighing .algebra .ops in
     let s = g .W·Weighing·met .lawful .semiring in
     gathers-all (o .either) (o .none) (λ w. w) (either-over o) refl (λ w ws. refl) (s .either-assoc) (s .either-comm) (s .either-none)
-      (c .args .weights .now) (c .loop-weight .weight-index) (c .loop-weight .total) (omega arith) (c .loop-weight .inv)
+    (c .args .weights .now) (c .loop-weight .weight-index) (c .loop-weight .total) (omega arith) (c .loop-weight .inv)

@@ -17,8 +17,8 @@ loop-charge-again g c =
     let a = g .W·Weighing .algebra in
     let s = g .W·Weighing·met .lawful .semiring in
     gathers-more (a .ops .both) (a .ops .free) (a .weighed) (λ cs. both-over (a .ops) (map (a .weighed) cs)) refl (λ w ws. refl) (s .both-assoc) (s .both-comm) (s .both-free)
-      (c .args .charges .now) (c .loop-charge .charge-index) (c .charge-item .result) (c .loop-charge .weight) (c .both-weight .result) (omega arith) (c .charge-item .is)
-      (c .both-weight .ensures ∙ ap (λ w. a .ops .both (c .loop-charge .weight) w) (c .weigh .ensures)) (c .loop-charge .inv)
+    (c .args .charges .now) (c .loop-charge .charge-index) (c .charge-item .result) (c .loop-charge .weight) (c .both-weight .result) (omega arith) (c .charge-item .is)
+    (c .both-weight .ensures ∙ ap (λ w. a .ops .both (c .loop-charge .weight) w) (c .weigh .ensures)) (c .loop-charge .inv)
 
 pub returns : need.returns
 unfolding both-over
@@ -26,4 +26,4 @@ returns g c =
     let a = g .W·Weighing .algebra in
     let s = g .W·Weighing·met .lawful .semiring in
     gathers-all (a .ops .both) (a .ops .free) (a .weighed) (λ cs. both-over (a .ops) (map (a .weighed) cs)) refl (λ w ws. refl) (s .both-assoc) (s .both-comm) (s .both-free)
-      (c .args .charges .now) (c .loop-charge .charge-index) (c .loop-charge .weight) (omega arith) (c .loop-charge .inv)
+    (c .args .charges .now) (c .loop-charge .charge-index) (c .loop-charge .weight) (omega arith) (c .loop-charge .inv)
