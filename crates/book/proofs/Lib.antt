@@ -1,0 +1,4 @@
+pub mod Joins
+pub mod Bars
+pub mod Numbers
+pub mod Touches

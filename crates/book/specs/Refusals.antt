@@ -1,5 +1,7 @@
 -- The number, the layer and the place of each refusal.
 use Prim.Native.Nat.{ℕ}
+use mathlib.Core.List.{List}
+use lib.Chars.{codes}
 use Rattle.book.specs.declared.refusal.Refusal.{Refusal}
 use Rattle.book.specs.declared.refusal.Layer.{Layer}
 use Rattle.book.specs.declared.refusal.Layer.the-variants.{Line, Record, Book, Order, Question}
@@ -61,3 +63,18 @@ number r = layer-number (r .layer)
 -- where it applies: a line, a lock, a join, a need: what the number says
 abbrev pub place : Refusal → ℕ
 place r = layer-place (r .layer)
+
+-- the layer's word
+abbrev pub layer-word : Layer → List ℕ
+layer-word (Line p c) = codes "line"
+layer-word (Record p c) = codes "record"
+layer-word (Book p c) = codes "book"
+layer-word (Order p c) = codes "order"
+layer-word (Question p c) = codes "question"
+
+abbrev pub word : Refusal → List ℕ
+word r = layer-word (r .layer)
+
+-- two books do not go together
+abbrev pub apart : Refusal
+apart = record { layer = Book 0 Apart }

@@ -4,8 +4,22 @@ ghost use Rattle.book.specs.Books.{Meaning, Ranged};
 ghost use Rattle.book.specs.Scopes.{named};
 use weighing::Charge;
 
+mod barred;
+mod joined;
+mod laws;
+mod lent;
 mod refusal;
 mod scope;
+
+pub use barred::Barred;
+pub use barred::BarredBook;
+pub use joined::Joined;
+pub use joined::JoinedBook;
+pub use joined::go_together;
+pub use laws::joined_tables;
+pub use laws::rows_barred;
+pub use laws::rows_numbered;
+pub use lent::LentBook;
 pub use refusal::BookCause;
 pub use refusal::Layer;
 pub use refusal::LineCause;

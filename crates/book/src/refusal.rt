@@ -1,6 +1,8 @@
 // What every layer hands back in place of a result: which of the sixteen numbered conditions stopped the call,
 // at which layer and at which place.
 
+mod reads;
+
 #[derive(Clone, Copy, Debug, PartialEq, Eq)]
 pub struct Refusal {
     pub layer: Layer,

@@ -28,7 +28,10 @@ impl Scope {
     pub fn none() -> Scope
         ensures { λ r. ⌜ named r ≡ [] ⌝ }
     {
-        Scope { len: 0, locks: [0; 6] }
+        Scope {
+            len: 0,
+            locks: [0; 6],
+        }
     }
 
     // These locks, where they are at most six, rise and are below 64.
@@ -48,6 +51,9 @@ impl Scope {
             }
             row[i] = locks[i];
         }
-        Some(Scope { len: locks.len(), locks: row })
+        Some(Scope {
+            len: locks.len(),
+            locks: row,
+        })
     }
 }
