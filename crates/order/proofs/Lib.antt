@@ -1,0 +1,15 @@
+pub mod Places
+pub mod Shaped
+pub mod Masked
+pub mod Listed
+pub mod KnownNodes
+pub mod FirstOf
+pub mod Powers
+pub mod FitJoins
+pub mod PlanRows
+pub mod AboveOf
+pub mod PlanMade
+pub mod AcceptedOrders
+pub mod OneAbove
+pub mod CarriedPlans
+pub mod StandingPlans

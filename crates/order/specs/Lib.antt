@@ -1,0 +1,12 @@
+pub mod Shapes
+pub mod BookShapes
+pub mod Marked
+pub mod Known
+pub mod Firsts
+pub mod Refusals
+pub mod Sides
+pub mod Aboves
+pub mod Rows
+pub mod Plans
+pub mod Claims
+pub mod Examples
