@@ -1,0 +1,10 @@
+pub mod Shaped
+pub mod Grows
+pub mod Listings
+pub mod Ruled
+pub mod Naming
+pub mod Judged
+pub mod Texts
+pub mod Filling
+pub mod Verdicts
+pub mod Seconds

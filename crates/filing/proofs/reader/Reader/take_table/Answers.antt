@@ -1,0 +1,19 @@
+use mathlib.Core.Path.{refl, ap, _∙_}
+use Rattle.lines.specs.Told.{held, table}
+use Rattle.lines.specs.declared.kind.Kind.the-variants as kind
+use Rattle.filing.specs.Standing.{add-table}
+use Rattle.filing.specs.Readers.{standing-of}
+use Rattle.filing.specs.declared.reader.Entry.the-variants as entry
+use Rattle.filing.proofs.Judged.{is-table, scope-passes}
+use Rattle.filing.proofs.reader.Reader.take_table.Needs as need
+
+pub returns : need.returns
+returns c =
+    let s = standing-of (c .args .self .now) in
+    let ns = held (c .args .locks) in
+    let g = c .in-Continue-scope .ensures tt in
+    record {
+      passes = scope-passes s (table ns) ns (is-table s ns (c .pre .follows)) _ g;
+      adds = (c .in-Continue-scope .scope, g .over, refl);
+      moves = c .add-table .ensures ∙ ap (add-table s kind.Table) (c .count .ensures);
+    }

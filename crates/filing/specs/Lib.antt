@@ -1,0 +1,13 @@
+pub mod Scopes
+pub mod Shapes
+pub mod Written
+pub mod Rules
+pub mod Follows
+pub mod Standing
+pub mod Judging
+pub mod Reading
+pub mod Resolving
+pub mod Readers
+pub mod Scanning
+pub mod Calls
+pub mod Verdicts
