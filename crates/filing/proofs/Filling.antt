@@ -98,11 +98,15 @@ module _ (Bad : ℕ → RowRecord → Type 0) (text : List ℕ) (ts : List Told)
       count = count;
     }
 
+    -- whatever the line holds
+    pub onward : (No-room Bad (standing-at p) (step .line) → ⊥) → Sofar Bad text (ts ++ (step .line ∷ [])) q (length (all-rows at-start (ts ++ (step .line ∷ []))))
+    onward has = next _ has refl
+
     module _ (other : (r : RowRecord) → e ≡ entry.Row r → ⊥) where
       none-here : (line-rows (standing-at p) (step .line) ≡ []) × (No-room Bad (standing-at p) (step .line) → ⊥)
       none-here = no-row Bad (standing-at p) (step .line) e (step .taken .adds) other
 
-      same-rows : all-rows at-start (ts ++ (step .line ∷ [])) ≡ all-rows at-start ts
+      pub same-rows : all-rows at-start (ts ++ (step .line ∷ [])) ≡ all-rows at-start ts
       same-rows = rows-next ∙ ap (λ l. all-rows at-start ts ++ l) (none-here .0) ∙ append-nil _
 
       -- the line holds no row
@@ -116,7 +120,7 @@ module _ (Bad : ℕ → RowRecord → Type 0) (text : List ℕ) (ts : List Told)
       row-here : Has-row Bad (standing-at p) (step .line) r
       row-here = has-row Bad (standing-at p) (step .line) r (subst (Adds (standing-at p) (step .line)) is (step .taken .adds))
 
-      one-row : all-rows at-start (ts ++ (step .line ∷ [])) ≡ all-rows at-start ts ++ (r ∷ [])
+      pub one-row : all-rows at-start (ts ++ (step .line ∷ [])) ≡ all-rows at-start ts ++ (r ∷ [])
       one-row = rows-next ∙ ap (λ l. all-rows at-start ts ++ l) (row-here .rows)
 
       -- the line holds a row, and it is not bad

@@ -8,3 +8,7 @@ pub mod Texts
 pub mod Filling
 pub mod Verdicts
 pub mod Seconds
+pub mod Contents
+pub mod Drafting
+pub mod Opening
+pub mod Gathering

@@ -21,9 +21,9 @@ use Rattle.filing.specs.declared.reader.Entry.{Entry}
 use Rattle.filing.specs.declared.reader.Entry.the-variants as entry
 use Rattle.filing.specs.Standing.{Standing, at-start, after, after-all, line-rows, all-rows}
 use Rattle.filing.specs.Judging.{Met, No-room, First-met, Passes}
-use Rattle.filing.specs.Reading.{All-pass, Reached, Stops, no-line, met, ended, filled}
+use Rattle.filing.specs.Reading.{All-pass, Reached, Accepted, Stops, no-line, met, ended, filled}
 use Rattle.filing.specs.Readers.{Any-row, Kept, Adds, Taken}
-use Rattle.filing.proofs.Judged.{first-any}
+use Rattle.filing.proofs.Judged.{first-any, room}
 
 pub after-push : (s : Standing) (ts : List Told) (t : Told) → after-all s (ts ++ (t ∷ [])) ≡ after (after-all s ts) t
 after-push s [] t = refl
@@ -165,3 +165,23 @@ set-at (x ∷ xs) ys w h = ap (λ l. x ∷ l) (set-at xs ys w h)
 pub put-row : (xs before : List RowRecord) (k : ℕ) (w : RowRecord) → k ≡ length xs → k < length before → set (xs ++ drop (length xs) before) k w ≡ (xs ++ (w ∷ [])) ++ drop (length (xs ++ (w ∷ []))) before
 put-row xs before k w e h =
     ap (λ i. set (xs ++ drop (length xs) before) i w) e ∙ set-at xs (drop (length xs) before) w (omega (arith, length-drop (length xs) before)) ∙ ap (λ l. (xs ++ (w ∷ [])) ++ l) (drop-drop 1 (length xs) before ∙ ap (λ i. drop i before) (sym (length-append xs (w ∷ []))))
+
+-- what is accepted with a row list is accepted with the list left aside
+
+pass-any : (Bad : ℕ → RowRecord → Type 0) (s : Standing) (ts : List Told) → All-pass Bad s ts → All-pass Any-row s ts
+pass-any Bad s [] a = tt
+pass-any Bad s (t ∷ ts) a = (passes-any s t (a .0), pass-any Bad (after s t) ts (a .1))
+  where
+    passes-any : (s : Standing) (t : Told) → Passes Bad s t → Passes Any-row s t
+    passes-any s t p Misplaced m = p Misplaced m
+    passes-any s t p TooMany m = p TooMany m
+    passes-any s t p WrongName m = p WrongName m
+    passes-any s t p NotRising m = p NotRising m
+    passes-any s t p NoRoom m = room s t m
+
+pub accepted-any : (Bad : ℕ → RowRecord → Type 0) (text : List ℕ) (ts : List Told) → Accepted Bad text ts → Accepted Any-row text ts
+accepted-any Bad text ts a = record {
+  short = a .short;
+  reached = record { good = a .reached .good; whole = a .reached .whole; pass = pass-any Bad at-start ts (a .reached .pass) };
+  ends = a .ends;
+}

@@ -1,8 +1,8 @@
 -- What the two calls give and leave.
 use mathlib.Core.Path.{_≡_}
 use mathlib.Core.List.{List}
-use Prim.Native.Nat.{ℕ}
-use lib.ListN.{length}
+use Prim.Native.Nat.{ℕ, _≤_}
+use lib.ListN.{length, take}
 use Rattle.std.specs.Results.{Cases}
 use Rattle.std.specs.declared.result.Result.{Result}
 use Rattle.book.specs.declared.refusal.Refusal.{Refusal}
@@ -18,8 +18,13 @@ pub record First-call (text : List ℕ) (before now : List RowRecord) (r : Resul
   pub rows : now ≡ filled lines before
   pub result : Cases r (λ n. Accepted (Full before) text lines × (n ≡ length (all-rows at-start lines))) (λ e. Refused (Full before) text e lines)
 
+-- n rows are at the front of the list
+pub record Found-rows (list : List RowRecord) (n : ℕ) (rows : List RowRecord) : Type 0 where
+  pub within : n ≤ length list
+  pub front : take n list ≡ rows
+
 -- The second call's test: the text is some lines, whose rows stand at the front of the list and are counted; or it
 -- is refused after some lines.
 pub record Second-check (text : List ℕ) (list : List RowRecord) (r : Result ℕ Refusal) : Type 0 where
   pub lines : List Told
-  pub result : Cases r (λ n. Accepted (Other-row list) text lines × (n ≡ length (all-rows at-start lines))) (λ e. Refused (Other-row list) text e lines)
+  pub result : Cases r (λ n. Accepted (Other-row list) text lines × Found-rows list n (all-rows at-start lines)) (λ e. Refused (Other-row list) text e lines)

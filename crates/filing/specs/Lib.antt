@@ -10,4 +10,7 @@ pub mod Resolving
 pub mod Readers
 pub mod Scanning
 pub mod Calls
+pub mod Contents
+pub mod Drafts
+pub mod Meanings
 pub mod Verdicts

@@ -8,7 +8,7 @@ use Rattle.std.specs.declared.result.Result.{Result}
 use Rattle.book.specs.Scopes.{named}
 use Rattle.book.specs.declared.scope.Scope.{Scope}
 use Rattle.book.specs.declared.refusal.RecordCause.{RecordCause}
-use Rattle.book.specs.Lists.{Rising}
+use Rattle.book.specs.Lists.{Rising, Below}
 use Rattle.book.specs.declared.refusal.RecordCause.the-variants.{Misplaced, TooMany, WrongName, NotRising, NoRoom}
 use Rattle.lines.specs.Told.{Told, locks, holders, table, row, differ, same, join, bar}
 use Rattle.filing.specs.declared.record.RowRecord.{RowRecord}
@@ -31,9 +31,10 @@ pub record Kept (s : Standing) : Type 0 where
 abbrev pub Any-row : ℕ → RowRecord → Type 0
 Any-row k r = ⊥
 
--- the entry's scope has the numbers of these locks
-abbrev pub Over : Standing → List (List ℕ) → Scope → Type 0
-Over s ns scope = named scope ≡ places (s .locks) ns
+-- the entry's scope has the numbers of these locks, which are all in the list
+pub record Over (s : Standing) (ns : List (List ℕ)) (scope : Scope) : Type 0 where
+  pub is : named scope ≡ places (s .locks) ns
+  pub below : Below (length (s .locks)) (named scope)
 
 -- what a line adds, by numbers
 abbrev pub Adds : Standing → Told → Entry → Type 0

@@ -2,10 +2,12 @@
 use mathlib.Core.Path.{_≡_}
 use mathlib.Core.List.{List, []}
 use Prim.Native.Nat.{ℕ, _≤_, _<_}
-use lib.ListN.{length, take}
+use lib.ListN.{length, getD, take}
 use Rattle.std.specs.declared.option.Option.{Option}
 use Rattle.std.specs.declared.option.Option.the-variants.{Some, None}
 use Rattle.book.specs.Lists.{Below}
+use Rattle.std.specs.shelf.Lists.{All}
+use Rattle.lines.specs.Names.{Name}
 use Rattle.lines.specs.Told.{held}
 use Rattle.lines.specs.declared.names.Names.{Names}
 use Rattle.filing.specs.declared.resolve.Places.{Places}
@@ -31,3 +33,9 @@ pub record Noted (list ns : List (List ℕ)) (p : Places) : Type 0 where
   pub size : length (p .at) ≡ 4
   pub is : noted p ≡ places list ns
   pub below : Below (length list) (noted p)
+
+-- at most so many names, each well formed, none twice
+pub record Listing (most : ℕ) (ns : List (List ℕ)) : Type 0 where
+  pub few : length ns ≤ most
+  pub formed : All Name ns
+  pub apart : (j k : ℕ) → j < k → k < length ns → getD ns j [] ≡ getD ns k [] → ⊥

@@ -1,6 +1,7 @@
 -- One step along a text.
 use mathlib.Core.Path.{_≡_}
 use mathlib.Core.Bool.{true}
+use mathlib.Core.Logic.{_⊎_}
 use mathlib.Core.List.{List, []}
 use Prim.Native.Nat.{ℕ, _+_}
 use Rattle.std.specs.Options.{Cases as BySome}
@@ -37,6 +38,10 @@ pub record Stepped (p q : Scan) (e : Entry) : Type 0 where
   pub begins : Begins line (p .rest .now) (q .rest .now)
   pub taken : Taken (standing-at p) line (standing-at q) e
   pub place : q .place ≡ p .place + 1
+
+-- there is no next line: the text ends, or is stopped
+abbrev pub Halted : Scan → Type 0
+Halted p = Ended p ⊎ ((e : Refusal) × Stops Any-row (standing-at p) (p .place) (p .rest .now) e)
 
 abbrev pub Scanned : Scan → Scan → Result (Option Entry) Refusal → Type 0
 Scanned p q r = Cases r (λ o. BySome o (Ended p) (λ e. Stepped p q e)) (λ e. Stops Any-row (standing-at p) (p .place) (p .rest .now) e)

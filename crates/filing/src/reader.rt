@@ -275,6 +275,20 @@ impl<'a> Reader<'a> {
         }
     }
 
+    // The list of locks, if it has been read.
+    pub(crate) fn locks(&self) -> Option<Names<'a>>
+        ensures { λ r. ⌜ r ≡ now (self .entry) .locks ⌝ }
+    {
+        self.locks
+    }
+
+    // The list of holders, if it has been read.
+    pub(crate) fn holders(&self) -> Option<Names<'a>>
+        ensures { λ r. ⌜ r ≡ now (self .entry) .holders ⌝ }
+    {
+        self.holders
+    }
+
     // Whether the text may end here.
     pub(crate) fn may_end(&self) -> bool
         ensures { λ r. ⌜ r ≡ may-end (standing-of (now (self .entry)) .before) ⌝ }

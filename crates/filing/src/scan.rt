@@ -4,12 +4,14 @@ ghost use Prim.Native.Nat.{_+_, _<_, _≤_};
 ghost use lib.ListN.{length};
 ghost use Rattle.filing.specs.Reading.{record-refusal};
 ghost use Rattle.filing.specs.Readers.{Kept};
-ghost use Rattle.filing.specs.Scanning.{standing-at, Opened, Scanned};
+ghost use Rattle.filing.specs.Scanning.{standing-at, Opened, Stepped, Halted, Scanned};
+ghost use Rattle.std.specs.Options.{Cases as BySome};
 use crate::reader::Entry;
 use crate::reader::Reader;
 use book::Layer;
 use book::RecordCause;
 use book::Refusal;
+use lines::Names;
 use lines::take_line;
 
 #[derive(Clone, Copy)]
@@ -41,6 +43,20 @@ impl<'a> Scan<'a> {
         }
     }
 
+    // The list of locks, if it has been read.
+    pub(crate) fn locks(&self) -> Option<Names<'a>>
+        ensures { λ r. ⌜ r ≡ now (self .entry) .reader .locks ⌝ }
+    {
+        self.reader.locks()
+    }
+
+    // The list of holders, if it has been read.
+    pub(crate) fn holders(&self) -> Option<Names<'a>>
+        ensures { λ r. ⌜ r ≡ now (self .entry) .reader .holders ⌝ }
+    {
+        self.reader.holders()
+    }
+
     // The number of the line that comes next.
     pub(crate) fn place(&self) -> usize
         ensures { λ r. ⌜ r ≡ now (self .entry) .place ⌝ }
@@ -68,5 +84,21 @@ impl<'a> Scan<'a> {
             }
             Err(cause) => Err(refuse(self.place, cause)),
         }
+    }
+
+    // What the next line adds; nothing at the end, or where the line cannot come here.
+    pub(crate) fn step(&mut self) -> Option<Entry>
+        requires kept { ⌜ Kept (standing-at (now self)) ⌝ ∗ ⌜ standing-at (now self) .rows < 65536 ⌝ ∗ ⌜ now self .place ≤ 65536 ⌝ }
+        ensures { λ r. ⌜ BySome r (Halted (now (self .entry)) × (now (self .exit) ≡ now (self .entry))) (λ e. Stepped (now (self .entry)) (now (self .exit)) e) ⌝ }
+    {
+        let mut ahead = *self;
+        let Ok(next) = ahead.next() else {
+            return None;
+        };
+        let Some(entry) = next else {
+            return None;
+        };
+        *self = ahead;
+        Some(entry)
     }
 }

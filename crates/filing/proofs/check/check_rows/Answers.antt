@@ -2,15 +2,17 @@ use mathlib.Core.Path.{_≡_, refl, sym, ap, subst, _∙_}
 use mathlib.Core.List.{[], _∷_, _++_}
 use native.Mathlib.Omega.{arith}
 use borrow.Author.Tests.{clash}
-use Rattle.std.proofs.shelf.Lists.{getD-default}
+use Rattle.std.proofs.shelf.Lists.{getD-default, take-more}
 use Rattle.std.proofs.shelf.Results.{err-from-errBy}
 use Rattle.book.specs.declared.refusal.RecordCause.the-variants.{NoRoom}
+use lib.ListN.{getD}
 use Rattle.filing.specs.Reading.{Other-row, record-refusal}
-use Rattle.filing.proofs.Filling.{Sofar, start, rows-room, place-room, done, refused, pass, add, stuck, shorter, stepped-at}
+use Rattle.filing.specs.Standing.{at-start, all-rows}
+use Rattle.filing.proofs.Filling.{Sofar, start, rows-room, place-room, done, refused, pass, add, stuck, same-rows, one-row, shorter, stepped-at}
 use Rattle.filing.proofs.check.check_rows.Needs as need
 
 pub loop-entry-holds : need.loop-entry-holds
-loop-entry-holds c = ([], start (Other-row (c .args .rows .now)) _ _ (c .if-text-gt-LONGEST .left) (c .new-scan .ensures))
+loop-entry-holds c = ([], start (Other-row (c .args .rows .now)) _ _ (c .if-text-gt-LONGEST .left) (c .new-scan .ensures), record { within = omega arith; front = refl })
 
 pub next-requires : need.next-requires
 next-requires c κs = record { kept = (c .loop-entry .inv .1 .kept, (rows-room _ _ _ _ _ (c .loop-entry .inv .1), place-room _ _ _ _ _ (c .loop-entry .inv .1))) }
@@ -46,6 +48,14 @@ loop-entry-again-in-Row c =
     let here = getD-default (c .args .rows .now) (c .loop-entry .found) (c .in-Row .row) (c .index-rows-found .result) (c .if-found-rows .left) ∙ sym (c .index-rows-found .is) in (
       c .loop-entry .inv .0 ++ (t .line ∷ []),
       add (Other-row (c .args .rows .now)) _ _ _ _ (c .loop-entry .inv .1) _ _ t (c .in-Row .row) (c .in-Row .is) (λ other. other (c .if-found-rows .left, here ∙ c .if-not-same-row .ensures tt .sound refl)),
+      record {
+        within = omega arith;
+        front =
+            take-more (c .args .rows .now) (c .loop-entry .found) (c .in-Row .row) (c .if-found-rows .left)
+            ∙ ap (λ l. l ++ (getD (c .args .rows .now) (c .loop-entry .found) (c .in-Row .row) ∷ [])) (c .loop-entry .inv .2 .front)
+            ∙ ap (λ x. all-rows at-start (c .loop-entry .inv .0) ++ (x ∷ [])) (here ∙ c .if-not-same-row .ensures tt .sound refl)
+            ∙ sym (one-row (Other-row (c .args .rows .now)) _ _ _ _ (c .loop-entry .inv .1) _ _ t (c .in-Row .row) (c .in-Row .is));
+      },
     )
 
 pub loop-entry-less : need.loop-entry-less
@@ -56,4 +66,5 @@ loop-entry-again c =
     let t = stepped-at (c .loop-entry .scan) (c .next .last .self) _ _ (c .in-Some .is) (c .in-Continue-entry .ensures tt) in (
       c .loop-entry .inv .0 ++ (t .line ∷ []),
       pass (Other-row (c .args .rows .now)) _ _ _ _ (c .loop-entry .inv .1) _ _ t (c .in-rest-entry .not-Row),
+      record { within = c .loop-entry .inv .2 .within; front = c .loop-entry .inv .2 .front ∙ sym (same-rows (Other-row (c .args .rows .now)) _ _ _ _ (c .loop-entry .inv .1) _ _ t (c .in-rest-entry .not-Row)) },
     )

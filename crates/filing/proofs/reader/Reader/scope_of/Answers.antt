@@ -15,7 +15,7 @@ returns-in-Some-of c =
       few = omega arith;
       listed = all-listed _ _ (subst (Below _) (n .is) (n .below));
       rises = subst Rising e (c .in-Some-of .scope .rising);
-      over = e;
+      over = record { is = e; below = subst (Below _) (sym e) (subst (Below _) (n .is) (n .below)) };
     }
 
 pub returns-in-None : need.returns-in-None
