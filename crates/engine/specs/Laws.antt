@@ -7,6 +7,7 @@ use mathlib.Core.List.{List, [], _∷_, _++_, map}
 use mathlib.Core.Logic.{_⊎_}
 use Prim.Native.Nat.{ℕ, _<_}
 use lib.ListN.{length, getD, take}
+use Rattle.std.specs.Vec.{made}
 use Rattle.std.specs.shelf.Lists.{kept-by}
 use Rattle.std.specs.Iters.{counting}
 use Rattle.std.specs.declared.option.Option.{Option}
@@ -99,7 +100,7 @@ module _ {W P : Type 0} (a : Algebra W P) (m : Meaning) (order : Option (List Jo
   Law (LockSheet l) before after r =
       (r ≡ answered (question-refusal (shape-of m) order (LockSheet l) (length (before .cells)) (length (before .sheet))) Written)
       × Lock-law l (length (before .cells)) (before .sheet) (after .sheet)
-  Law Assigning before after r = Assignment-law (length (before .cells)) (before .holders) (after .holders) r
+  Law Assigning before after r = Assignment-law (length (before .cells)) (before .holders) (after .holders) r × made r (λ answer. answer ≡ Written)
 
 -- The law on runs: a case is made of a book, any calls are made, some of them refused, and any question is asked next.
 -- The calls leave some memory, the question leaves what it does as the case then stands, and its law holds.
