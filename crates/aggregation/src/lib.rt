@@ -1,5 +1,7 @@
 // The theory of joins along a tree, for weights under any commutative semiring. Its definitions and statements stand
 // in specs/; each function here carries a theorem on its contract and computes nothing.
+#![tactic(auto)]
+
 mod examples;
 mod join;
 mod listings;

@@ -2,7 +2,7 @@
 use Rattle.std.proofs.Common.{◌≡◌, ℕ, ◌+◌, ◌-◌, true, false, refl, ap, ◌∙◌, inl, inr, arith}
 use Rattle.std.proofs.lemmas.Bool.{eq-eqb, le-leb, lt-ltb, le-ltb, both_ways, and_from, cases_Bool, cond-true, cond-false}
 use Rattle.book.specs.Books.{Meaning}
-use Rattle.book.specs.Layers.{Together, together, beside, joined, InTurn, JoinedTables}
+use Rattle.book.specs.Layers.{Together, together, beside, InTurn, JoinedTables}
 use Rattle.book.specs.Ranges.{together_true}
 
 -- the test says yes of books that go together

@@ -1,9 +1,9 @@
 -- Row numbers and digits are inverse.
-use Rattle.std.proofs.Common.{◌≡◌, ℕ, zero, suc, ◌+◌, ◌-◌, ◌*◌, ◌/◌, ◌%◌, ◌^◌, ◌<◌, ◌≤◌, List, [], ◌∷◌, length, get_or, sym, refl, ap, ◌∙◌, subst, mul_comm, pow-suc, mul-div_cancel, arith}
+use Rattle.std.proofs.Common.{◌≡◌, ℕ, zero, suc, ◌+◌, ◌-◌, ◌*◌, ◌/◌, ◌%◌, ◌^◌, ◌<◌, ◌≤◌, List, [], ◌∷◌, length, sym, refl, ap, ◌∙◌, mul_comm, pow-suc, mul-div_cancel, arith}
 use native.Mathlib.Nat.{pow-zero, one-le-pow, pow-le-pow_left, pow-le-pow_right}
 use Rattle.std.proofs.lemmas.Nat.{mul-add-lt, div-mul-add, mod-mul-add, div-add-mod', div_below, mod_below}
 use Rattle.book.specs.Lists.{Below}
-use Rattle.book.specs.Rows.{row_number, digits, Numbering, RowsNumbered}
+use Rattle.book.specs.Rows.{row_number, digits, RowsNumbered}
 
 -- a power of a holder count, at most sixteen, with an exponent of at most six
 pub pow_small : (H n : ℕ) → 0 < H → H ≤ 16 → n ≤ 6 → H ^ n ≤ 16777216

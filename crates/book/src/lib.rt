@@ -1,4 +1,6 @@
 // Books: who may hold which locks together, as tables of rows, and what they mean.
+#![tactic(auto)]
+
 ghost use Rattle.std.specs.Prelude.{◌≡◌};
 ghost use Rattle.book.specs.Books.{Meaning, Ranged};
 ghost use Rattle.book.specs.Scopes.{named};

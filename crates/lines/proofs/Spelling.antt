@@ -1,18 +1,17 @@
 -- Spelling is one-to-one: a key tells the kind, a mark is where it is first, and numbers and names have one spelling.
-use Rattle.std.proofs.Common.{◌≡◌, ℕ, ◌+◌, ◌^◌, ◌<◌, ◌≤◌, Bool, true, false, cond, eqb, List, [], ◌∷◌, ◌++◌, length, get_or, drop, decimal, sym, refl, ap, ◌∙◌, subst, append_assoc, arith, length-append, rules, eq-eqb, ne_eqb}
+use Rattle.std.proofs.Common.{◌≡◌, ℕ, ◌^◌, ◌<◌, ◌≤◌, cond, eqb, List, [], ◌∷◌, ◌++◌, length, get_or, drop, decimal, sym, refl, ap, ◌∙◌, subst, arith, length-append, rules, eq-eqb, ne_eqb}
 use Rattle.std.specs.Str.Parse.{AllDigits, digits_value}
 use Rattle.std.specs.Int.{IsInRange}
 use Rattle.std.specs.List.{AllByRecursion as All}
 use Rattle.std.proofs.lemmas.Fmt.{digits_decimal, digits_value-decimal}
-use Rattle.std.proofs.ByRecursion.{All-append, All-weaker, All-from_get_or}
+use Rattle.std.proofs.ByRecursion.{All-append, All-from_get_or}
 use Rattle.std.proofs.lemmas.List.{drop_at}
 use Rattle.std.proofs.lemmas.Str.Parse.{IsNumeralModel, numerals_by_value, tells_digits, not_in_digits}
 use Rattle.lines.specs.Cuts.{Lacks, Cut}
 use Rattle.lines.specs.Names.{Name, joined, pieces}
-use Rattle.lines.specs.Numbers.{Spelled}
-use Rattle.lines.specs.Told.{Told, locks, holders, table, row, differ, same, join, bar, kind_of, key, charged, body, spell, SomeNamed, Named, Good, Reads}
+use Rattle.lines.specs.Told.{Told, locks, holders, table, row, differ, same, join, bar, kind_of, key, charged, body, spell, Named, Good, Reads}
 use Rattle.lines.specs.Bodies.{NoBody}
-use Rattle.lines.specs.Texts.{spell_all, Begins, NoLine}
+use Rattle.lines.specs.Texts.{spell_all, NoLine}
 use Rattle.lines.specs.declared.kind.Kind.{Kind}
 use Rattle.lines.specs.declared.kind.Kind.TheVariants as kind
 use Rattle.lines.proofs.Cutting.{Same, one_place}

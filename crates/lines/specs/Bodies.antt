@@ -1,7 +1,7 @@
 -- What follows a key, and when nothing that a line of that kind can say is spelled so.
 use Rattle.std.specs.Prelude.{◌≡◌, ℕ, ◌≤◌, List, ◌∷◌, ◌++◌, decimal, ◌≢◌}
 use Rattle.lines.specs.Names.{Name, joined}
-use Rattle.lines.specs.Told.{Told, kind_of, body, charged, Good, SomeNamed, Named, meant, placed}
+use Rattle.lines.specs.Told.{kind_of, body, charged, Good, SomeNamed, Named, meant, placed}
 use Rattle.lines.specs.declared.kind.Kind.{Kind}
 use Rattle.lines.specs.declared.kind.Kind.TheVariants as kind
 use Rattle.lines.specs.declared.line.Line.{Line}

@@ -4,7 +4,7 @@ use Rattle.std.specs.List.{AllByRecursion as All}
 use Rattle.book.specs.declared.refusal.Refusal.{Refusal}
 use Rattle.book.specs.declared.refusal.Layer.TheVariants.{Line}
 use Rattle.book.specs.declared.refusal.LineCause.TheVariants.{NoForm}
-use Rattle.lines.specs.Told.{Told, spell, Good, Reads}
+use Rattle.lines.specs.Told.{Told, spell, Good}
 
 -- the bytes of a text of these lines
 abbrev pub spell_all : List Told → List ℕ

@@ -1,4 +1,6 @@
 // From bytes to lines: each line of a filed text is one of eight forms, and every value of a form has one spelling.
+#![tactic(auto)]
+
 mod cut;
 mod key;
 mod kind;

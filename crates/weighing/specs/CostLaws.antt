@@ -4,7 +4,6 @@ use Rattle.std.proofs.lemmas.Bool.{cases_lt}
 use Rattle.weighing.specs.declared.amount.Amount.{Amount}
 use Rattle.weighing.specs.declared.cost.Cost.{Cost}
 use Rattle.weighing.specs.declared.cost.Cost.TheVariants.{None, Of}
-use Rattle.weighing.specs.declared.charge.Charge.{Charge}
 use Rattle.weighing.specs.Costs.{amount, cheaper, sum, stored, loaded, costs}
 use Rattle.weighing.specs.Laws.{Lawful}
 use Rattle.weighing.specs.Ranges.{amount_eq}

@@ -1,10 +1,8 @@
 -- The weighing cost: none, or an amount of at most 1,000,000,000. Free is 0, a charge weighs what it says,
 -- either is the smaller (none is the largest), both the sum, cut to 1,000,000,000.
-use Rattle.std.specs.Prelude.{◌≡◌, ℕ, ◌+◌, ◌≤◌, min, Bool, true, false, cond, Some, None as Absent, Option, nat_le}
+use Rattle.std.specs.Prelude.{ℕ, ◌+◌, min, cond, Some, None as Absent, Option, nat_le}
 use Rattle.std.proofs.Common.{arith}
-use Rattle.weighing.specs.Semirings.{Operations}
 use Rattle.weighing.specs.Laws.{Algebra}
-use Rattle.weighing.specs.declared.charge.Charge.{Charge}
 use Rattle.weighing.specs.declared.amount.Amount.{Amount}
 use Rattle.weighing.specs.declared.cost.Cost.{Cost}
 use Rattle.weighing.specs.declared.cost.Cost.TheVariants.{None, Of}

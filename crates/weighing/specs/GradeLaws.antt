@@ -1,8 +1,8 @@
-use Rattle.std.specs.Prelude.{◌≡◌, ℕ, ◌+◌, ◌≤◌, min, max, Bool, true, false, cond, ◌⊎◌, ◌≢◌, nat_le, refl}
-use Rattle.std.proofs.Common.{sym, ap, ◌∙◌, inl, inr, ⊎_elim, arith, leb-true, leb-false}
+use Rattle.std.specs.Prelude.{◌≡◌, ℕ, ◌+◌, min, max, Bool, true, false, cond, ◌⊎◌, ◌≢◌, nat_le, refl}
+use Rattle.std.proofs.Common.{sym, ap, ◌∙◌, inl, inr, arith, leb-true, leb-false}
 use Rattle.std.proofs.lemmas.Bool.{cases_lt}
 use Rattle.weighing.specs.Laws.{Lawful}
-use Rattle.weighing.specs.Grades.{grade, higher, lower, graded, grades}
+use Rattle.weighing.specs.Grades.{grade, higher, lower, grades}
 use Rattle.weighing.specs.declared.charge.Charge.{Charge}
 use Rattle.weighing.specs.declared.grade.Grade.{Grade}
 use Rattle.weighing.specs.Ranges.{grade_eq}

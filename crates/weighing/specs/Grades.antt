@@ -1,10 +1,8 @@
 -- The weighing grade: a number from 0 to 1,000,001. None is 0, free 1,000,001, a charge weighs one more than
 -- it says, either is the larger, both the smaller.
-use Rattle.std.specs.Prelude.{ℕ, ◌+◌, ◌≤◌, min, max, Bool, cond, nat_le}
+use Rattle.std.specs.Prelude.{ℕ, ◌+◌, min, max, cond, nat_le}
 use Rattle.std.proofs.Common.{arith}
-use Rattle.weighing.specs.Semirings.{Operations}
 use Rattle.weighing.specs.Laws.{Algebra}
-use Rattle.weighing.specs.declared.charge.Charge.{Charge}
 use Rattle.weighing.specs.declared.grade.Grade.{Grade}
 
 -- the grade of a number, cut to the largest

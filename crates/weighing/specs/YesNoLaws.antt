@@ -1,6 +1,5 @@
 use Rattle.std.specs.Prelude.{◌≡◌, ℕ, Bool, true, false, cond, ◌⊎◌, ◌≢◌, refl}
 use Rattle.std.proofs.Common.{inl, inr, arith}
-use Rattle.weighing.specs.Semirings.{Semiring}
 use Rattle.weighing.specs.Laws.{Lawful}
 use Rattle.weighing.specs.YesNos.{or, and, is_yes, yes_nos}
 use Rattle.weighing.specs.declared.yes_no.YesNo.{YesNo}

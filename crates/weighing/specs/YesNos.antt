@@ -1,6 +1,5 @@
 -- The weighing yes/no: none is no; free and every charge are yes; either is or, both is and.
 use Rattle.std.specs.Prelude.{Bool, true, false, cond}
-use Rattle.weighing.specs.Semirings.{Operations}
 use Rattle.weighing.specs.Laws.{Algebra}
 use Rattle.weighing.specs.declared.yes_no.YesNo.{YesNo}
 use Rattle.weighing.specs.declared.yes_no.YesNo.TheVariants.{No, Yes}

@@ -1,4 +1,6 @@
 // Weighings: what the permitted ways to fill a case are worth, under `either` and `both`.
+#![tactic(auto)]
+
 ghost use Rattle.std.specs.Prelude.{◌≡◌};
 ghost use Rattle.weighing.specs.Laws.{Algebra, Lawful};
 ghost use Rattle.weighing.specs.Tests.{Tells};

@@ -6,7 +6,7 @@ use crate::{Charge, Weighing};
 
 // The either over a list of weights; over no weights it is none.
 pub fn either_over<W: Weighing>(weights: &[W]) -> W
-    ensures { result ≡ either_over algebra.ops weights.now }
+    ensures { result ≡ either_over W.algebra.ops weights.now }
 {
     let mut total = W::none();
     for weight in weights {
@@ -17,7 +17,7 @@ pub fn either_over<W: Weighing>(weights: &[W]) -> W
 
 // What rows with these charges weigh together; no rows are free.
 pub fn weigh_all<W: Weighing>(charges: &[Charge]) -> W
-    ensures { result ≡ both_over algebra.ops (map algebra.weighed charges.now) }
+    ensures { result ≡ both_over W.algebra.ops (map W.algebra.weighed charges.now) }
 {
     let mut weight = W::free();
     for charge in charges {

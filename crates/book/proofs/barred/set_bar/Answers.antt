@@ -1,4 +1,4 @@
-use Rattle.std.proofs.Common.{◌≡◌, false, not, ◌&&◌, ltb, [], get_or, set, sym, ap, ◌∙◌, arith}
+use Rattle.std.proofs.Common.{◌≡◌, false, not, ◌&&◌, ltb, set, sym, ap, ◌∙◌, arith}
 use mathlib.Core.Bool.{beq}
 use Rattle.std.proofs.lemmas.Bool.{lt-ltb, le-ltb, and_left}
 use Rattle.book.specs.Layers.{bar_at, kept_pair}
@@ -12,8 +12,8 @@ returns-then-lock-lt64 c =
     let holder = c.args.holder in
     let b = c.args.barred in
     record {
-      value = c.set-mark.ensures.value ∙ ap (λ k. k && ltb holder 16 && not (beq (bar_at bars lock holder) b)) (sym (lt-ltb lock 64 (omega arith)));
-      after = ap (λ marks. bar_at (set bars lock marks)) c.set-mark.ensures.after ∙ set_pair bars lock holder b c.told-bars (omega arith) c.set-mark.ensures.len;
+      value = c.set_mark.ensures.value ∙ ap (λ k. k && ltb holder 16 && not (beq (bar_at bars lock holder) b)) (sym (lt-ltb lock 64 (omega arith)));
+      after = ap (λ marks. bar_at (set bars lock marks)) c.set_mark.ensures.after ∙ set_pair bars lock holder b c.told-bars (omega arith) c.set_mark.ensures.len;
     }
 
 pub returns-else-lock-lt64 : goal.returns-else-lock-lt64

@@ -1,4 +1,4 @@
-use Rattle.std.proofs.Common.{false, sym, arith}
+use Rattle.std.proofs.Common.{sym, arith}
 use Rattle.std.proofs.lemmas.List.{set_past}
 use Rattle.std.proofs.lemmas.Bool.{le-ltb, and_left}
 use Rattle.book.proofs.barred.set_mark.Goals as goal

@@ -8,11 +8,11 @@ use Rattle.book.proofs.barred.touched.Goals as goal
 pub pow-place-requires : goal.pow-place-requires
 pow-place-requires c = omega (arith, pow_small c.args.holders c.len.result c.requires.0 c.requires.1 (omega arith))
 
-pub nonzero-div-digit : goal.nonzero-div-digit
-nonzero-div-digit c = place_some c.args.holders (length (named c.args.scope.now)) c.loop-i.i c.loop-i.place c.requires.0 (omega arith) c.loop-i.invariant.0
+pub nonzero_div-digit : goal.nonzero_div-digit
+nonzero_div-digit c = place_some c.args.holders (length (named c.args.scope.now)) c.loop-i.i c.loop-i.place c.requires.0 (omega arith) c.loop-i.invariant.0
 
-pub nonzero-rem-left : goal.nonzero-rem-left
-nonzero-rem-left c = place_some c.args.holders (length (named c.args.scope.now)) c.loop-i.i c.loop-i.place c.requires.0 (omega arith) c.loop-i.invariant.0
+pub nonzero_rem-left : goal.nonzero_rem-left
+nonzero_rem-left c = place_some c.args.holders (length (named c.args.scope.now)) c.loop-i.i c.loop-i.place c.requires.0 (omega arith) c.loop-i.invariant.0
 
 pub returns-then-bar : goal.returns-then-bar
 returns-then-bar c =

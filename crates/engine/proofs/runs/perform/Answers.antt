@@ -12,6 +12,6 @@ returns-in-TableSheet g c =
       order = sym (ap (order_left (shape_now this) (order_now this)) is);
       bars = sym (ap (bars_left (shape_now this) (bars_now this)) is);
       same = (refl, refl);
-      leaves = table_leaves g.W.Weighing.algebra (meaning_now this g.B.Book.meaning) (order_now this) c.args.cells.now c.table-sheet.new.cells c.args.sheet.now c.table-sheet.new.out
-          c.args.holders.now c.table-sheet.result c.in-TableSheet.table c.args.call is c.table-sheet.ensures.told;
+      leaves = table_leaves g.W.Weighing.algebra (meaning_now this g.B.Book.meaning) (order_now this) c.args.cells.now c.table_sheet.new.cells c.args.sheet.now c.table_sheet.new.out
+          c.args.holders.now c.table_sheet.result c.in-TableSheet.table c.args.call is c.table_sheet.ensures.told;
     }

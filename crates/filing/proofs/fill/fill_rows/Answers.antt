@@ -11,14 +11,14 @@ loop-entry-init c = ([], start (Full c.args.rows.now) _ _ c.if-text-gt-LONGEST.f
 pub next-requires : goal.next-requires
 next-requires c = record { kept = (c.loop-entry.invariant.1.kept, (rows_room _ _ _ _ _ c.loop-entry.invariant.1, place_room _ _ _ _ _ c.loop-entry.invariant.1)) }
 
-pub returns-in-err-entry : goal.returns-in-err-entry
-returns-in-err-entry c =
-    let p = err_from_is_err_and c.from-residual.result c.from-residual.ensures.1 in
-    record { lines = c.loop-entry.invariant.0; rows = c.loop-entry.invariant.2; result = rw (p.1, p.2) (refused _ _ _ _ _ c.loop-entry.invariant.1 _ c.in-err-entry.ensures) }
+pub returns-in_err-entry : goal.returns-in_err-entry
+returns-in_err-entry c =
+    let p = err_from_is_err_and c.from_residual.result c.from_residual.ensures.1 in
+    record { lines = c.loop-entry.invariant.0; rows = c.loop-entry.invariant.2; result = rw (p.1, p.2) (refused _ _ _ _ _ c.loop-entry.invariant.1 _ c.in_err-entry.ensures) }
 
 pub returns-then-filled-rows : goal.returns-then-filled-rows
 returns-then-filled-rows c =
-    let t = stepped_at c.loop-entry.scan c.next.new.self _ _ c.in-Some.is c.in-ok-entry.ensures in
+    let t = stepped_at c.loop-entry.scan c.next.new.self _ _ c.in-Some.is c.in_ok-entry.ensures in
     record {
       lines = c.loop-entry.invariant.0;
       rows = c.loop-entry.invariant.2;
@@ -26,23 +26,23 @@ returns-then-filled-rows c =
     }
 
 pub loop-entry-smaller-in-Row : goal.loop-entry-smaller-in-Row
-loop-entry-smaller-in-Row c = shorter _ _ _ (stepped_at c.loop-entry.scan c.next.new.self _ _ c.in-Some.is c.in-ok-entry.ensures)
+loop-entry-smaller-in-Row c = shorter _ _ _ (stepped_at c.loop-entry.scan c.next.new.self _ _ c.in-Some.is c.in_ok-entry.ensures)
 
 pub loop-entry-preserved-in-Row : goal.loop-entry-preserved-in-Row
 loop-entry-preserved-in-Row c =
-    let t = stepped_at c.loop-entry.scan c.next.new.self _ _ c.in-Some.is c.in-ok-entry.ensures in (
+    let t = stepped_at c.loop-entry.scan c.next.new.self _ _ c.in-Some.is c.in_ok-entry.ensures in (
       c.loop-entry.invariant.0 ++ (t.line ∷ []),
       add (Full c.args.rows.now) _ _ _ _ c.loop-entry.invariant.1 _ _ t c.in-Row.row c.in-Row.is (λ full. omega arith),
       more_list (Full c.args.rows.now) _ _ _ _ c.loop-entry.invariant.1 _ _ t c.in-Row.row c.in-Row.is c.args.rows.now c.loop-entry.rows c.loop-entry.invariant.2 (omega arith),
     )
 
 pub loop-entry-smaller : goal.loop-entry-smaller
-loop-entry-smaller c = shorter _ _ _ (stepped_at c.loop-entry.scan c.next.new.self _ _ c.in-Some.is c.in-ok-entry.ensures)
+loop-entry-smaller c = shorter _ _ _ (stepped_at c.loop-entry.scan c.next.new.self _ _ c.in-Some.is c.in_ok-entry.ensures)
 
 pub loop-entry-preserved : goal.loop-entry-preserved
 loop-entry-preserved c =
-    let t = stepped_at c.loop-entry.scan c.next.new.self _ _ c.in-Some.is c.in-ok-entry.ensures in (
+    let t = stepped_at c.loop-entry.scan c.next.new.self _ _ c.in-Some.is c.in_ok-entry.ensures in (
       c.loop-entry.invariant.0 ++ (t.line ∷ []),
-      pass (Full c.args.rows.now) _ _ _ _ c.loop-entry.invariant.1 _ _ t c.in-default-entry.not-Row,
-      same_list (Full c.args.rows.now) _ _ _ _ c.loop-entry.invariant.1 _ _ t c.in-default-entry.not-Row c.args.rows.now c.loop-entry.rows c.loop-entry.invariant.2,
+      pass (Full c.args.rows.now) _ _ _ _ c.loop-entry.invariant.1 _ _ t c.in_default-entry.not-Row,
+      same_list (Full c.args.rows.now) _ _ _ _ c.loop-entry.invariant.1 _ _ t c.in_default-entry.not-Row c.args.rows.now c.loop-entry.rows c.loop-entry.invariant.2,
     )

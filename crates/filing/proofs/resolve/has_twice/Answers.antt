@@ -2,10 +2,10 @@ use Rattle.std.proofs.Common.{◌≡◌, true, false, sym, refl, ◌∙◌, arit
 use borrow.Author.Tests.{clash}
 use Rattle.lines.specs.Told.{held}
 use Rattle.filing.proofs.resolve.has_twice.Goals as goal
-use Rattle.filing.proofs.resolve.has_twice.Goals.{in-Some-find+else-first-i, in-default-find}
+use Rattle.filing.proofs.resolve.has_twice.Goals.{in-Some-find+else-first-i, in_default-find}
 
-pub returns-in-default : goal.returns-in-default
-returns-in-default c = absurd (omega (arith, c.in-default.ensures))
+pub returns-in_default : goal.returns-in_default
+returns-in_default c = absurd (omega (arith, c.in_default.ensures))
 
 pub returns-then-first-i : goal.returns-then-first-i
 returns-then-first-i c =
@@ -19,7 +19,7 @@ loop-i-preserved c =
     below_more _ _ c.loop-i.invariant
     (λ j l e. elim c.match-find.branch [
       | in-Some-find+else-first-i w ↦ w.in-Some-find.ensures.before j (omega arith) (e ∙ sym n.1)
-      | in-default-find w ↦ w.in-default-find.ensures j (omega (arith, n.0)) (e ∙ sym n.1)
+      | in_default-find w ↦ w.in_default-find.ensures j (omega (arith, n.0)) (e ∙ sym n.1)
     ])
 
 pub returns : goal.returns

@@ -7,11 +7,11 @@ pub loop-i-init : goal.loop-i-init
 unfolding row_number
 loop-i-init c = refl
 
-pub overflow-mul-row : goal.overflow-mul-row
-overflow-mul-row c = omega (arith, (row_more c.args.holders c.args.places.at c.args.places.len c.loop-i.i c.loop-i.row (omega arith) (omega arith) (omega arith) c.requires.below c.loop-i-test.true c.loop-i.invariant).0)
+pub overflow_mul-row : goal.overflow_mul-row
+overflow_mul-row c = omega (arith, (row_more c.args.holders c.args.places.at c.args.places.len c.loop-i.i c.loop-i.row (omega arith) (omega arith) (omega arith) c.requires.below c.loop-i-test.true c.loop-i.invariant).0)
 
-pub overflow-add-row : goal.overflow-add-row
-overflow-add-row c =
+pub overflow_add-row : goal.overflow_add-row
+overflow_add-row c =
     let m = row_more c.args.holders c.args.places.at c.args.places.len c.loop-i.i c.loop-i.row (omega arith) (omega arith) (omega arith) c.requires.below c.loop-i-test.true c.loop-i.invariant in
     omega (arith, m.0, m.2)
 

@@ -5,8 +5,8 @@ use Rattle.filing.proofs.Gathering.{blank_of}
 use Rattle.filing.proofs.Texts.{accepted_any}
 use Rattle.filing.proofs.second.read_filing.Goals as goal
 
-pub slice-bounds-gather-end : goal.slice-bounds-gather-end
-slice-bounds-gather-end c = omega (arith, c.in-Ok.ensures.result.1.within)
+pub slice_bounds-gather-end : goal.slice_bounds-gather-end
+slice_bounds-gather-end c = omega (arith, c.in-Ok.ensures.result.1.within)
 
 pub gather-requires : goal.gather-requires
 gather-requires c =

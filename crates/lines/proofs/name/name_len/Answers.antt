@@ -1,20 +1,20 @@
-use Rattle.std.proofs.Common.{◌≡◌, ℕ, true, length, sym, ◌∙◌, subst, arith}
+use Rattle.std.proofs.Common.{◌≡◌, true, length, sym, arith}
 use Rattle.std.proofs.ByRecursion.{All-more}
 use Rattle.std.proofs.lemmas.List.{drop_all}
-use Rattle.lines.specs.Names.{name_byte, NameBytes, Stops}
+use Rattle.lines.specs.Names.{name_byte}
 use Rattle.lines.proofs.Naming.{stops_here}
 use Rattle.lines.proofs.name.name_len.Goals as goal
 
-pub returns-then-not-is-name-byte : goal.returns-then-not-is-name-byte
-returns-then-not-is-name-byte c = record {
+pub returns-then-not-is_name_byte : goal.returns-then-not-is_name_byte
+returns-then-not-is_name_byte c = record {
   within = omega arith;
   all = c.loop-i.invariant;
-  stops = stops_here c.args.bytes.now c.loop-i.i (omega arith) c.if-not-is-name-byte.ensures;
+  stops = stops_here c.args.bytes.now c.loop-i.i (omega arith) c.if-not-is_name_byte.ensures;
 }
 
 pub loop-i-preserved : goal.loop-i-preserved
 loop-i-preserved c =
-    All-more (λ b. name_byte b ≡ true) c.args.bytes.now c.loop-i.i 0 (omega arith) c.loop-i.invariant (sym c.if-not-is-name-byte.ensures)
+    All-more (λ b. name_byte b ≡ true) c.args.bytes.now c.loop-i.i 0 (omega arith) c.loop-i.invariant (sym c.if-not-is_name_byte.ensures)
 
 pub returns : goal.returns
 returns c = record {

@@ -1,13 +1,13 @@
-use Rattle.std.proofs.Common.{◌≡◌, ◌+◌, ◌-◌, ◌*◌, ◌<◌, ◌≤◌, length, get_or, take, drop, sym, ap, ◌∙◌, subst, arith, take_all}
+use Rattle.std.proofs.Common.{◌≡◌, ◌+◌, take, ap, ◌∙◌, subst, arith, take_all}
 use Rattle.std.specs.Str.Parse.{AllDigits, digits_value}
 use Rattle.lines.proofs.Numerals.{not_digit, too_big, one_more, digits_still, all_read}
 use Rattle.lines.proofs.number.read_digits.Goals as goal
 
-pub returns-in-default : goal.returns-in-default
-returns-in-default c n s = not_digit _ n c.loop-b.b-index (omega arith) (λ h. omega (arith, h.0)) s
+pub returns-in_default : goal.returns-in_default
+returns-in_default c n s = not_digit _ n c.loop-b.b-index (omega arith) (λ h. omega (arith, h.0)) s
 
-pub returns-in-default·2 : goal.returns-in-default·2
-returns-in-default·2 c n s = not_digit _ n c.loop-b.b-index (omega arith) (λ h. omega (arith, h.1)) s
+pub returns-in_default-2 : goal.returns-in_default-2
+returns-in_default-2 c n s = not_digit _ n c.loop-b.b-index (omega arith) (λ h. omega (arith, h.1)) s
 
 pub returns-then-n-gt-MOST : goal.returns-then-n-gt-MOST
 returns-then-n-gt-MOST c n s =

@@ -2,6 +2,6 @@ use Rattle.std.proofs.lemmas.Result.{err_from_is_err_and}
 use Rattle.lines.proofs.Spelling.{no_line}
 use Rattle.lines.proofs.read.take_line.Goals as goal
 
-pub returns-in-err-line : goal.returns-in-err-line
-returns-in-err-line c = let p = err_from_is_err_and c.from-residual.result c.from-residual.ensures.1 in
-    rw (p.1, p.2) (no_line _ _ _ c.in-Some.ensures c.in-err-line.ensures.0, c.in-err-line.ensures.1)
+pub returns-in_err-line : goal.returns-in_err-line
+returns-in_err-line c = let p = err_from_is_err_and c.from_residual.result c.from_residual.ensures.1 in
+    rw (p.1, p.2) (no_line _ _ _ c.in-Some.ensures c.in_err-line.ensures.0, c.in_err-line.ensures.1)

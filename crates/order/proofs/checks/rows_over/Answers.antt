@@ -10,8 +10,8 @@ fits_under n e h = omega arith
 pub loop-k-init : goal.loop-k-init
 loop-k-init c = sym (pow-zero c.args.holders)
 
-pub overflow-mul-rows : goal.overflow-mul-rows
-overflow-mul-rows c = let h = c.args.holders in let k = c.loop-k.k in let a = pow_small h (k + 1) c.requires.1 (omega arith) in let b = pow_more h k in let d : c.loop-k.rows * h ≡ h ^ k * h = ap (λ n. n * h) c.loop-k.invariant in fits_under (c.loop-k.rows * h) (d ∙ sym b) a
+pub overflow_mul-rows : goal.overflow_mul-rows
+overflow_mul-rows c = let h = c.args.holders in let k = c.loop-k.k in let a = pow_small h (k + 1) c.requires.1 (omega arith) in let b = pow_more h k in let d : c.loop-k.rows * h ≡ h ^ k * h = ap (λ n. n * h) c.loop-k.invariant in fits_under (c.loop-k.rows * h) (d ∙ sym b) a
 
 pub loop-k-preserved : goal.loop-k-preserved
 loop-k-preserved c = ap (λ n. n * c.args.holders) c.loop-k.invariant ∙ sym (pow_more c.args.holders c.loop-k.k)

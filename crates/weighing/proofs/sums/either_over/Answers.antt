@@ -1,4 +1,4 @@
-use Rattle.std.proofs.Common.{◌≡◌, refl, ap, ◌∙◌, arith}
+use Rattle.std.proofs.Common.{refl, ap, ◌∙◌, arith}
 use Rattle.weighing.specs.Semirings.{either_over}
 use Rattle.weighing.proofs.Gathers.{gathers_more, gathers_all}
 use Rattle.weighing.proofs.sums.either_over.Goals as goal

@@ -1,4 +1,4 @@
-use Rattle.std.proofs.Common.{◌≡◌, map, refl, ap, ◌∙◌, arith}
+use Rattle.std.proofs.Common.{map, refl, ap, ◌∙◌, arith}
 use Rattle.weighing.specs.Semirings.{both_over}
 use Rattle.weighing.proofs.Gathers.{gathers_more, gathers_all}
 use Rattle.weighing.proofs.sums.weigh_all.Goals as goal

@@ -1,4 +1,4 @@
-use Rattle.std.proofs.Common.{◌≡◌, ◌<◌, ◌≤◌, length, get_or, take, sym, arith, length-take, get_or-take}
+use Rattle.std.proofs.Common.{◌<◌, ◌≤◌, length, take, sym, arith, length-take, get_or-take}
 use Rattle.std.proofs.lemmas.List.{get_or_past}
 use Rattle.book.proofs.scope.Scope.lock.Goals as goal
 

@@ -1,4 +1,4 @@
 use Rattle.engine.proofs.case.Case.order.Goals as goal
 
-pub invariant-of-self : goal.invariant-of-self
-invariant-of-self g c = (∣ c.in-Ok.ensures.ordered ∣₁, tt)
+pub invariant_of-self : goal.invariant_of-self
+invariant_of-self g c = record { stands = ∣ c.in-Ok.ensures.ordered ∣₁ }

@@ -1,4 +1,4 @@
 use Rattle.filing.proofs.names.NameList.new.Goals as goal
 
-pub invariant-of-result : goal.invariant-of-result
-invariant-of-result c = (c.requires.few, (∣ c.requires.formed ∣₁, (c.requires.apart, tt)))
+pub invariant_of-result : goal.invariant_of-result
+invariant_of-result c = record { few = c.requires.few; formed = ∣ c.requires.formed ∣₁; apart = c.requires.apart }

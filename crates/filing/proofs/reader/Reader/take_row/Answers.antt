@@ -27,7 +27,7 @@ pub returns-then-row-self : goal.returns-then-row-self
 returns-then-row-self c =
     let s = standing_of c.args.self.now in
     let n = c.in-Some.ensures in
-    let e = number _ _ _ _ _ n c.count-in.ensures c.number-of-row.ensures in
+    let e = number _ _ _ _ _ n c.count_in.ensures c.number_of-row.ensures in
     first_falls AnyRow s (row (held c.args.holders) c.args.charge) c.requires.follows (λ h. h)
     (all_listed _ _ (subst (Below _) n.is n.below))
     (inr (c.requires.tells.sound c.if-again.true, omega (arith, e, c.if-row-self.true)))
@@ -36,9 +36,9 @@ pub returns : goal.returns
 returns c =
     let s = standing_of c.args.self.now in
     let n = c.in-Some.ensures in
-    let e : c.number-of-row.result ≡ row_of s (held c.args.holders) = number _ _ _ _ _ n c.count-in.ensures c.number-of-row.ensures in
-    let t = c.saturating-sub-table.ensures in
-    let v = c.charge-of.ensures in
+    let e : c.number_of-row.result ≡ row_of s (held c.args.holders) = number _ _ _ _ _ n c.count_in.ensures c.number_of-row.ensures in
+    let t = c.saturating_sub-table.ensures in
+    let v = c.charge_of.ensures in
     record {
       passes = all_pass AnyRow s (row (held c.args.holders) c.args.charge) c.requires.follows (λ h. h)
           (all_listed _ _ (subst (Below _) n.is n.below))

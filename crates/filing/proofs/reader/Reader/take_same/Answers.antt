@@ -11,9 +11,9 @@ pub returns : goal.returns
 returns c =
     let s = standing_of c.args.self.now in
     let ns = held c.args.locks in
-    let g = c.in-ok-scope.ensures in
+    let g = c.in_ok-scope.ensures in
     record {
       passes = scope_passes s (same ns c.args.charge) ns (is_same s ns c.args.charge c.requires.follows) _ g;
-      adds = (c.in-ok-scope.scope, g.over, ap (entry.Same c.in-ok-scope.scope) c.charge-of.ensures);
-      moves = c.add-table.ensures ∙ ap (add_table s kind.Same) c.count.ensures;
+      adds = (c.in_ok-scope.scope, g.over, ap (entry.Same c.in_ok-scope.scope) c.charge_of.ensures);
+      moves = c.add_table.ensures ∙ ap (add_table s kind.Same) c.count.ensures;
     }

@@ -11,9 +11,9 @@ pub returns : goal.returns
 returns c =
     let s = standing_of c.args.self.now in
     let ns = held c.args.locks in
-    let g = c.in-ok-scope.ensures in
+    let g = c.in_ok-scope.ensures in
     record {
       passes = scope_passes s (table ns) ns (is_table s ns c.requires.follows) _ g;
-      adds = (c.in-ok-scope.scope, g.over, refl);
-      moves = c.add-table.ensures ∙ ap (add_table s kind.Table) c.count.ensures;
+      adds = (c.in_ok-scope.scope, g.over, refl);
+      moves = c.add_table.ensures ∙ ap (add_table s kind.Table) c.count.ensures;
     }

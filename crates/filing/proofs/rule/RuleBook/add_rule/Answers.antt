@@ -6,12 +6,12 @@ use Rattle.filing.proofs.Ruled.{rule_set, rule_other}
 use Rattle.filing.proofs.Grows.{grown}
 use Rattle.filing.proofs.rule.RuleBook.add_rule.Goals as goal
 
-pub invariant-of-self : goal.invariant-of-self
-invariant-of-self c =
+pub invariant_of-self : goal.invariant_of-self
+invariant_of-self c =
     let s = c.args.self.now.shape in
     let n = c.add.new.self in
     let m = c.add.ensures in
-    (λ t h. subst (λ ss. length (scope_at ss t) ≡ 2) (sym m.scopes) (scope_each s.scopes s.tables c.args.scope (λ xs. length xs ≡ 2) t m.room (λ _. c.requires.pair) (λ apart. c.args.self.now.pairs t (omega (arith, m.tables)))), tt)
+    record { pairs = λ t h. subst (λ ss. length (scope_at ss t) ≡ 2) (sym m.scopes) (scope_each s.scopes s.tables c.args.scope (λ xs. length xs ≡ 2) t m.room (λ _. c.requires.pair) (λ apart. c.args.self.now.pairs t (omega (arith, m.tables)))) }
 
 pub returns : goal.returns
 returns c =

@@ -4,12 +4,12 @@ use Rattle.filing.specs.Scanning.{Ended, Stepped}
 use Rattle.filing.proofs.Filling.{stepped_at}
 use Rattle.filing.proofs.scan.Scan.step.Goals as goal
 
-pub returns-in-default : goal.returns-in-default
-returns-in-default c = (inr (c.in-default.field-0, c.in-default.ensures), refl)
+pub returns-in_default : goal.returns-in_default
+returns-in_default c = (inr (c.in_default.field-0, c.in_default.ensures), refl)
 
-pub returns-in-default-next : goal.returns-in-default-next
-returns-in-default-next c =
-    (inl (MatchOption-at_none (Ended c.args.self.now) (λ e. Stepped c.args.self.now c.next.new.self e) c.in-default-next.is c.in-Ok.ensures), refl)
+pub returns-in_default-next : goal.returns-in_default-next
+returns-in_default-next c =
+    (inl (MatchOption-at_none (Ended c.args.self.now) (λ e. Stepped c.args.self.now c.next.new.self e) c.in_default-next.is c.in-Ok.ensures), refl)
 
 pub returns : goal.returns
 returns c = stepped_at c.args.self.now c.next.new.self _ _ c.in-Some.is c.in-Ok.ensures

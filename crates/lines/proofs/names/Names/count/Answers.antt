@@ -13,12 +13,12 @@ loop-after-preserved c = walk_more (held c.args.self) c.loop-after.before _ _ _ 
 pub loop-after-smaller : goal.loop-after-smaller
 loop-after-smaller c = cut_shorter _ _ _ _ c.in-Some.ensures
 
-pub overflow-add-before : goal.overflow-add-before
-overflow-add-before c = omega (arith, pieces_short c.args.self.bytes.now, (walk_more (held c.args.self) c.loop-after.before _ _ _ c.in-Some.ensures c.loop-after.invariant.0).1)
+pub overflow_add-before : goal.overflow_add-before
+overflow_add-before c = omega (arith, pieces_short c.args.self.bytes.now, (walk_more (held c.args.self) c.loop-after.before _ _ _ c.in-Some.ensures c.loop-after.invariant.0).1)
 
-pub overflow-add-result : goal.overflow-add-result
-overflow-add-result c = omega (arith, pieces_short c.args.self.bytes.now, c.loop-after.invariant.1, c.ranges.self.1)
+pub overflow_add-result : goal.overflow_add-result
+overflow_add-result c = omega (arith, pieces_short c.args.self.bytes.now, c.loop-after.invariant.1, c.ranges.self.1)
 
 pub returns : goal.returns
 returns c =
-    sym (walk_last (held c.args.self) c.loop-after.before _ (lacks_from 44 c.loop-after.rest.now c.in-default.ensures) c.loop-after.invariant.0).1
+    sym (walk_last (held c.args.self) c.loop-after.before _ (lacks_from 44 c.loop-after.rest.now c.in_default.ensures) c.loop-after.invariant.0).1

@@ -1,4 +1,4 @@
-use Rattle.std.proofs.Common.{◌≡◌, ◌+◌, ◌<◌, ◌≤◌, length, drop}
+use Rattle.std.proofs.Common.{◌≡◌, ◌<◌, length, drop}
 use Rattle.lines.specs.Names.{pieces}
 use Rattle.lines.specs.Told.{held}
 use Rattle.lines.proofs.names.Names.count.Given as goal

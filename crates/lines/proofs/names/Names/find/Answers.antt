@@ -1,4 +1,4 @@
-use Rattle.std.proofs.Common.{◌≡◌, true, false, sym, refl, ◌∙◌, arith, below_more}
+use Rattle.std.proofs.Common.{sym, ◌∙◌, arith, below_more}
 use borrow.Author.Tests.{clash}
 use Rattle.std.proofs.lemmas.Slice.Eq.{slice_eq-Decides}
 use Rattle.lines.specs.Told.{held}
@@ -17,8 +17,8 @@ returns-then-eq c = record {
   before = c.loop-first.invariant.2;
 }
 
-pub overflow-add-i : goal.overflow-add-i
-overflow-add-i c = omega (arith, pieces_short c.args.self.bytes.now, (walk_more (held c.args.self) c.loop-first.i _ _ _ c.in-Some.ensures c.loop-first.invariant.0).1)
+pub overflow_add-i : goal.overflow_add-i
+overflow_add-i c = omega (arith, pieces_short c.args.self.bytes.now, (walk_more (held c.args.self) c.loop-first.i _ _ _ c.in-Some.ensures c.loop-first.invariant.0).1)
 
 pub loop-first-smaller : goal.loop-first-smaller
 loop-first-smaller c = cut_shorter _ _ _ _ c.in-Some.ensures
@@ -35,11 +35,11 @@ loop-first-preserved c =
 pub returns-then-eq-2 : goal.returns-then-eq-2
 returns-then-eq-2 c = record {
   within = c.loop-first.invariant.1;
-  here = sym (walk_last (held c.args.self) c.loop-first.i _ (lacks_from 44 c.loop-first.rest.now c.in-default.ensures) c.loop-first.invariant.0).0 ∙ (slice_eq-Decides Decides-eqb _ _ _ c.eq-2.ensures).0 c.if-eq-2.true;
+  here = sym (walk_last (held c.args.self) c.loop-first.i _ (lacks_from 44 c.loop-first.rest.now c.in_default.ensures) c.loop-first.invariant.0).0 ∙ (slice_eq-Decides Decides-eqb _ _ _ c.eq-2.ensures).0 c.if-eq-2.true;
   before = c.loop-first.invariant.2;
 }
 
 pub returns-else-eq-2 : goal.returns-else-eq-2
 returns-else-eq-2 c k l =
-    let w = walk_last (held c.args.self) c.loop-first.i _ (lacks_from 44 c.loop-first.rest.now c.in-default.ensures) c.loop-first.invariant.0 in
+    let w = walk_last (held c.args.self) c.loop-first.i _ (lacks_from 44 c.loop-first.rest.now c.in_default.ensures) c.loop-first.invariant.0 in
     below_more _ _ c.loop-first.invariant.2 (λ e. clash (sym c.if-eq-2.false ∙ (slice_eq-Decides Decides-eqb _ _ _ c.eq-2.ensures).1 (w.0 ∙ e))) k (omega (arith, w.1))

@@ -1,10 +1,10 @@
-use Rattle.std.proofs.Common.{◌≡◌, length, sym, ap, subst, ⊎_elim, arith}
-use Rattle.lines.specs.Names.{joined, Listed, pieces}
+use Rattle.std.proofs.Common.{length, sym, ap, subst, ⊎_elim, arith}
+use Rattle.lines.specs.Names.{Listed, pieces}
 use Rattle.lines.proofs.Naming.{listed_pieces, same_names}
 use Rattle.lines.proofs.names.Names.read_few.Goals as goal
 
-pub returns-in-default : goal.returns-in-default
-returns-in-default c ns h e = c.in-default.ensures ns (record { some = omega (arith, h.least_so); names = h.names; is = e })
+pub returns-in_default : goal.returns-in_default
+returns-in_default c ns h e = c.in_default.ensures ns (record { some = omega (arith, h.least_so); names = h.names; is = e })
 
 pub returns-then-count-least : goal.returns-then-count-least
 returns-then-count-least c ns h e =

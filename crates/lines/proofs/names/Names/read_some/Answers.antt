@@ -1,6 +1,5 @@
-use Rattle.std.proofs.Common.{◌≡◌, sym, subst}
-use Rattle.lines.specs.Names.{joined, Listed, pieces}
-use Rattle.lines.specs.Told.{SomeNamed}
+use Rattle.std.proofs.Common.{sym, subst}
+use Rattle.lines.specs.Names.{Listed, pieces}
 use Rattle.lines.proofs.Naming.{listed_pieces}
 use Rattle.lines.proofs.names.Names.read_some.Goals as goal
 

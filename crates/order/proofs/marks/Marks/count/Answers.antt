@@ -8,8 +8,8 @@ use Rattle.order.proofs.marks.Marks.count.Goals.{then-self-k, else-self-k}
 pub loop-k-init : goal.loop-k-init
 loop-k-init c = sym (size_none (marked c.args.self.now))
 
-pub overflow-add-count : goal.overflow-add-count
-overflow-add-count c = let u = size_under c.loop-k.k (marked c.args.self.now) in let e : c.loop-k.count ≡ size c.loop-k.k (marked c.args.self.now) = c.loop-k.invariant in omega arith
+pub overflow_add-count : goal.overflow_add-count
+overflow_add-count c = let u = size_under c.loop-k.k (marked c.args.self.now) in let e : c.loop-k.count ≡ size c.loop-k.k (marked c.args.self.now) = c.loop-k.invariant in omega arith
 
 pub loop-k-preserved : goal.loop-k-preserved
 loop-k-preserved c =

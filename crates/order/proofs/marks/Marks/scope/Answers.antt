@@ -13,14 +13,14 @@ loop-k-init c = (refl, sym (size_none (marked c.args.self.now)), sym (listed_non
 free : (c : goal.Then-self-k) → c.loop-k.len < 6
 free c = let s = marked c.args.self.now in let r = room c.args.n c.loop-k.k s 6 c.loop-k-test.true c.if-self-k.true c.requires.few in let e : c.loop-k.len ≡ size c.loop-k.k s = c.loop-k.invariant.1 in omega arith
 
-pub offset-bounds-locks-len : goal.offset-bounds-locks-len
-offset-bounds-locks-len c = omega (arith, free c)
+pub offset_bounds-locks-len : goal.offset_bounds-locks-len
+offset_bounds-locks-len c = omega (arith, free c)
 
 pub bounds-locks-len : goal.bounds-locks-len
 bounds-locks-len c = free c
 
-pub overflow-add-len : goal.overflow-add-len
-overflow-add-len c = omega (arith, c.loop-k.invariant.1, size_under c.loop-k.k (marked c.args.self.now))
+pub overflow_add-len : goal.overflow_add-len
+overflow_add-len c = omega (arith, c.loop-k.invariant.1, size_under c.loop-k.k (marked c.args.self.now))
 
 pub loop-k-preserved : goal.loop-k-preserved
 loop-k-preserved c =

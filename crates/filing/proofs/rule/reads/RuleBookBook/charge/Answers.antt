@@ -9,6 +9,6 @@ pub returns : goal.returns
 returns c =
     let q = c.args.self.now in
     let rule = get_or q.rules c.args.table c.index-self-table.result in
-    let inside = cond-true (has_row q.shape c.args.table c.args.row) (rule_at q.rules c.args.table q.shape.holders c.args.row) None (sym c.if-not-has-row.ensures.value) in
+    let inside = cond-true (has_row q.shape c.args.table c.args.row) (rule_at q.rules c.args.table q.shape.holders c.args.row) None (sym c.if-not-has_row.ensures.value) in
     let read = rule_read q.rules c.args.table c.index-self-table.result q.shape.holders c.args.row (omega arith) in
     c.charged.ensures ∙ ap (λ n. ruled rule n c.args.row) c.holders.ensures.value ∙ sym (inside ∙ read)

@@ -13,7 +13,7 @@ pub returns-then-record-row : goal.returns-then-record-row
 returns-then-record-row c =
     let b = c.args.self.now in
     let here = listed_here b.rows.now c.loop-record.record-index c.record-item.result c.args.table c.args.row c.loop-record-test.true c.record-item.is c.if-record-table.true c.if-record-row.true in
-    sym (cond-true (has_row b.shape c.args.table c.args.row) (listed b.rows.now c.args.table c.args.row) None (sym c.if-not-has-row.ensures.value) ∙ c.loop-record.invariant ∙ here)
+    sym (cond-true (has_row b.shape c.args.table c.args.row) (listed b.rows.now c.args.table c.args.row) None (sym c.if-not-has_row.ensures.value) ∙ c.loop-record.invariant ∙ here)
 
 pub loop-record-preserved : goal.loop-record-preserved
 loop-record-preserved c =
@@ -29,4 +29,4 @@ pub returns : goal.returns
 returns c =
     let b = c.args.self.now in
     let past = listed_all b.rows.now c.loop-record.record-index c.args.table c.args.row c.loop-record-test.false in
-    sym (cond-true (has_row b.shape c.args.table c.args.row) (listed b.rows.now c.args.table c.args.row) None (sym c.if-not-has-row.ensures.value) ∙ c.loop-record.invariant ∙ past)
+    sym (cond-true (has_row b.shape c.args.table c.args.row) (listed b.rows.now c.args.table c.args.row) None (sym c.if-not-has_row.ensures.value) ∙ c.loop-record.invariant ∙ past)

@@ -1,4 +1,4 @@
-use Rattle.std.proofs.Common.{◌≡◌, ap, eq-eqb, eqb-true}
+use Rattle.std.proofs.Common.{ap, eq-eqb, eqb-true}
 use Rattle.weighing.specs.Ranges.{grade_eq}
 use Rattle.weighing.proofs.grade.weighs.GradeWeighing.same.Goals as goal
 
