@@ -1,8 +1,7 @@
 -- What a book by formula means, and that it keeps to the ranges of a book.
-use Rattle.std.specs.Prelude.{◌≡◌, ℕ, zero, suc, ◌+◌, ◌-◌, ◌*◌, ◌/◌, ◌%◌, ◌^◌, ◌<◌, ◌≤◌, Bool, true, false, cond, ◌&&◌, List, [], ◌∷◌, length, None, Option, nat_lt, slice_index_or, refl}
+use Rattle.std.specs.Prelude.{ℕ, zero, suc, ◌+◌, ◌-◌, ◌*◌, ◌/◌, ◌%◌, ◌^◌, ◌<◌, ◌≤◌, Bool, cond, ◌&&◌, List, [], ◌∷◌, length, None, nat_lt, slice_index_or}
 use Rattle.std.proofs.Common.{arith}
 use Rattle.std.proofs.lemmas.Bool.{ltb-true, ltb-false, le-ltb, and_left, and_right, cond-false, cond_both}
-use Rattle.weighing.specs.declared.charge.Charge.{Charge}
 use Rattle.book.specs.Lists.{Rising, Below}
 use Rattle.book.specs.Books.{Meaning, Ranged}
 use Rattle.bench.specs.declared.grid.Kind.{Kind}

@@ -1,4 +1,6 @@
 // A benchmark of the engine: how long each question takes, on books by formula of four kinds.
+#![tactic(auto)]
+
 use crate::grid::Kind;
 use crate::trial::Trial;
 use std::{env, io};

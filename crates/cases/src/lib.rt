@@ -1,1 +1,3 @@
+#![tactic(auto)]
+
 // Cases from filed texts: the case that a text spells.

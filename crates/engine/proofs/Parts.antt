@@ -1,10 +1,9 @@
 -- One call or question of a run, by the question's own contract.
-use Rattle.std.proofs.Common.{◌≡◌, ℕ, Bool, List, length, Some, None, Ok, Err, Option, Result, sym, refl, ap, ◌∙◌, subst, ap₂, arith}
+use Rattle.std.proofs.Common.{◌≡◌, ℕ, List, Some, None, Err, Option, Result, sym, ap, ◌∙◌, subst, ap₂, arith}
 use Rattle.weighing.specs.Laws.{Algebra}
 use Rattle.book.specs.Books.{Meaning}
 use Rattle.book.specs.declared.refusal.Refusal.{Refusal}
 use Rattle.aggregation.specs.declared.join.Join.{Join}
-use Rattle.order.specs.Shapes.{shape_of}
 use Rattle.engine.specs.declared.call.Call.{Call}
 use Rattle.engine.specs.declared.call.Call.TheVariants.{TableSheet, LockSheet}
 use Rattle.engine.specs.declared.question.Answer.{Answer}
@@ -12,7 +11,7 @@ use Rattle.engine.specs.declared.question.Answer.TheVariants.{Written}
 use Rattle.aggregation.specs.Nets.{Shape}
 use Rattle.engine.specs.declared.question.Question.{Question}
 use Rattle.engine.specs.Questions.{answered, question_refusal}
-use Rattle.engine.specs.Memory.{Memory, Leaves}
+use Rattle.engine.specs.Memory.{Leaves}
 use Rattle.engine.specs.Told.{ToldTable, ToldLock}
 
 module _ {W P : Type 0} (a : Algebra W P) (m : Meaning) (order : Option (List Join)) (before after out written : List P) (holders : List ℕ) (r : Result (Unit {0}) Refusal) where

@@ -1,10 +1,9 @@
 -- A run, call by call: how the case stands and what the memory holds are what the calls so far say.
-use Rattle.std.proofs.Common.{◌≡◌, ℕ, ◌≤◌, Bool, false, List, [], ◌∷◌, ◌++◌, length, None, Option, Result, sym, refl, ap, ◌∙◌, subst, ap₂}
+use Rattle.std.proofs.Common.{◌≡◌, false, List, [], ◌∷◌, ◌++◌, length, None, Result, sym, ap, ◌∙◌, subst, ap₂}
 use Rattle.weighing.specs.Laws.{Algebra}
 use Rattle.book.specs.Books.{Meaning, Ranged}
 use Rattle.book.specs.Layers.{barred}
 use Rattle.book.specs.declared.refusal.Refusal.{Refusal}
-use Rattle.aggregation.specs.declared.join.Join.{Join}
 use Rattle.order.specs.Shapes.{shape_of}
 use Rattle.engine.specs.declared.call.Call.{Call}
 use Rattle.engine.specs.declared.question.Question.{Question}

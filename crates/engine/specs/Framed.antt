@@ -1,7 +1,7 @@
 -- A book seen through a copy of its shape.
-use Rattle.std.specs.Prelude.{◌≡◌, ℕ, ◌^◌, ◌<◌, ◌≤◌, Bool, true, false, cond, ◌&&◌, List, [], length, None, Option, ◌≢◌, nat_lt, refl}
+use Rattle.std.specs.Prelude.{◌≡◌, ◌^◌, Bool, true, false, cond, ◌&&◌, length, None, Option, ◌≢◌, nat_lt, refl}
 use Rattle.std.proofs.Common.{arith}
-use Rattle.std.proofs.lemmas.Bool.{cond_both, ltb-true, and_parts}
+use Rattle.std.proofs.lemmas.Bool.{ltb-true, and_parts}
 use Rattle.weighing.specs.declared.charge.Charge.{Charge}
 use Rattle.book.specs.Books.{Meaning, Ranged}
 use Rattle.aggregation.specs.Nets.{Shape}

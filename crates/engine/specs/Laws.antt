@@ -1,8 +1,7 @@
 -- The law on runs. A case is made of a book that means m, some calls are made on it, and a question is asked. The
 -- order in force is then the last accepted one; a pair is barred when the last accepted bar or lift that named it was a
 -- bar; an assignment is permitted when every table permits its row and it uses no barred pair.
-use Rattle.std.specs.Prelude.{◌≡◌, ℕ, ◌<◌, Bool, true, false, ◌⊎◌, List, [], ◌∷◌, ◌++◌, map, length, take, IfOk, Some, None, Ok, Err, filter, Option, Result, slice_index_or}
-use Rattle.std.specs.List.{range_with_len}
+use Rattle.std.specs.Prelude.{◌≡◌, ℕ, ◌<◌, Bool, true, ◌⊎◌, List, [], ◌∷◌, ◌++◌, length, take, IfOk, Some, None, Ok, Err, filter, Option, Result, slice_index_or}
 use Rattle.weighing.specs.Semirings.{Better}
 use Rattle.weighing.specs.Laws.{Algebra}
 use Rattle.book.specs.Books.{Meaning}

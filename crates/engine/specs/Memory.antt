@@ -1,5 +1,5 @@
 -- What the calls leave in the memory that they are lent: cells, places for a sheet, and places for holders.
-use Rattle.std.specs.Prelude.{◌≡◌, ℕ, ◌<◌, Bool, true, false, cond, ◌⊎◌, List, [], ◌∷◌, ◌++◌, map, length, take, drop, Some, None, Ok, Err, Option, Result, ◌≢◌}
+use Rattle.std.specs.Prelude.{◌≡◌, ℕ, ◌⊎◌, List, length, take, drop, Some, None, Ok, Err, Option, Result, ◌≢◌}
 use Rattle.weighing.specs.Laws.{Algebra}
 use Rattle.book.specs.Books.{Meaning}
 use Rattle.book.specs.declared.refusal.Refusal.{Refusal}

@@ -2,7 +2,7 @@
 use Rattle.std.specs.Prelude.{ℕ, cond, List, [], Some, None, Ok, Err, Option, Result, nat_lt}
 use Rattle.book.specs.declared.refusal.Refusal.{Refusal}
 use Rattle.book.specs.declared.refusal.QuestionCause.{QuestionCause}
-use Rattle.book.specs.declared.refusal.QuestionCause.TheVariants.{NoOrder, NotInBook, FewCells, ShortOutput, NoAssignment}
+use Rattle.book.specs.declared.refusal.QuestionCause.TheVariants.{NoOrder, NotInBook, FewCells, ShortOutput}
 use Rattle.book.specs.declared.refusal.Layer.TheVariants.{Question as AtQuestion}
 use Rattle.aggregation.specs.declared.join.Join.{Join}
 use Rattle.aggregation.specs.Nets.{Shape}

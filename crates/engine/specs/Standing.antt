@@ -1,6 +1,6 @@
 -- How a case stands after a list of calls: by the last accepted order, and for each pair by the last accepted bar or
 -- lift that named it.
-use Rattle.std.specs.Prelude.{◌≡◌, ℕ, Bool, true, false, cond, ◌&&◌, List, [], ◌∷◌, is_some, Some, None, Option, ◌==◌}
+use Rattle.std.specs.Prelude.{ℕ, Bool, true, false, cond, ◌&&◌, List, [], ◌∷◌, Some, None, Option, ◌==◌}
 use Rattle.book.specs.declared.refusal.Refusal.{Refusal}
 use Rattle.aggregation.specs.declared.join.Join.{Join}
 use Rattle.aggregation.specs.Nets.{Shape}

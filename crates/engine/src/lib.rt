@@ -3,6 +3,8 @@
 // Phases, lowest first: `step`, `steps`, `source`, `factor`, `walk` and `sums` are one aggregation, the projection of the
 // join of two factors; `projects` writes it into cells; `fills` and `spreads` are the two phases; `totals`, `sheets`,
 // `locks` and `assigns` read answers off them. `framed`, `case`, `refusals` and `runs` are what a caller meets.
+#![tactic(auto)]
+
 mod assigns;
 mod call;
 mod case;

@@ -1,20 +1,17 @@
 -- What one line more adds to the contents of the lines before.
-use Rattle.std.proofs.Common.{◌≡◌, ℕ, ◌+◌, ◌^◌, ◌<◌, ◌≤◌, Bool, true, false, ◌⊎◌, List, [], ◌∷◌, ◌++◌, map, length, get_or, None, Option, sym, refl, ap, ◌∙◌, subst, inl, inr, ⊎_elim, append_assoc, append-nil, add-zero, arith, length-append}
+use Rattle.std.proofs.Common.{◌≡◌, ℕ, ◌+◌, ◌^◌, ◌<◌, Bool, true, ◌⊎◌, List, [], ◌∷◌, ◌++◌, map, length, get_or, None, Option, sym, refl, ap, ◌∙◌, subst, inl, inr, ⊎_elim, append_assoc, append-nil, add-zero, arith, length-append}
 use Rattle.std.proofs.lemmas.List.{get_or_append_left, get_or-append-add, map-append, length-map, get_or-map}
 use Rattle.std.proofs.str.Laws.{order}
 use Rattle.weighing.specs.declared.charge.Charge.{Charge}
 use Rattle.book.specs.Books.{Meaning}
 use Rattle.book.specs.Layers.{bar_put}
-use Rattle.book.specs.Scopes.{named}
 use Rattle.lines.specs.Told.{Told, locks, holders, table, row, differ, same, join, bar}
-use Rattle.filing.specs.declared.join.Join.{Join}
 use Rattle.filing.specs.declared.reader.Entry.{Entry}
-use Rattle.filing.specs.declared.reader.Entry.TheVariants as entry
 use Rattle.filing.specs.declared.rule.RuleForm.TheVariants as form
 use Rattle.filing.specs.Rules.{ruled}
 use Rattle.filing.specs.Shapes.{Grown}
-use Rattle.filing.specs.Standing.{Standing, at_start, after, after_all, charge_of}
-use Rattle.filing.specs.Readers.{Adds, Over}
+use Rattle.filing.specs.Standing.{Standing, after, after_all, charge_of}
+use Rattle.filing.specs.Readers.{Adds}
 use Rattle.filing.specs.Contents.{gather, line_scopes, Ruling, ruling, line_rules, line_joins, Pair, line_bars, barred_in_turn, BookOf, ruled_by}
 use Rattle.filing.specs.Drafts.{entry_scopes, entry_rules, entry_joins, entry_bars}
 

@@ -1,5 +1,5 @@
 -- A draft with one entry more.
-use Rattle.std.proofs.Common.{◌≡◌, ℕ, ◌<◌, ◌≤◌, Bool, true, false, List, [], ◌∷◌, ◌++◌, map, length, sym, refl, ap, ◌∙◌, subst, append-nil, arith}
+use Rattle.std.proofs.Common.{◌≡◌, ℕ, true, false, List, [], ◌∷◌, ◌++◌, map, length, sym, refl, ap, ◌∙◌, subst, append-nil}
 use Rattle.std.proofs.lemmas.List.{map-append, length-map}
 use Rattle.book.specs.Books.{Meaning}
 use Rattle.book.specs.Layers.{bar_at, bar_put}
@@ -8,7 +8,6 @@ use Rattle.book.specs.declared.scope.Scope.{Scope}
 use Rattle.weighing.specs.declared.charge.Charge.{Charge}
 use Rattle.filing.specs.declared.draft.Draft.{Draft}
 use Rattle.filing.specs.declared.join.Join.{Join}
-use Rattle.filing.specs.declared.reader.Entry.{Entry}
 use Rattle.filing.specs.declared.reader.Entry.TheVariants as entry
 use Rattle.filing.specs.declared.record.RowRecord.{RowRecord}
 use Rattle.filing.specs.declared.rule.RuleForm.{RuleForm}

@@ -1,19 +1,19 @@
 -- A text line by line: the lines so far, and what the row list holds after them.
-use Rattle.std.proofs.Common.{◌≡◌, ℕ, ◌+◌, ◌<◌, ◌≤◌, true, List, [], ◌∷◌, ◌++◌, length, drop, set, Some, Option, sym, refl, ap, ◌∙◌, subst, append-nil, arith, length-append, MatchOption}
+use Rattle.std.proofs.Common.{◌≡◌, ℕ, ◌+◌, ◌<◌, ◌≤◌, List, [], ◌∷◌, ◌++◌, length, drop, set, Some, Option, sym, refl, ap, ◌∙◌, subst, append-nil, arith, length-append, MatchOption}
 use Rattle.std.proofs.lemmas.Option.{MatchOption-at_some}
 use Rattle.book.specs.declared.refusal.Refusal.{Refusal}
 use Rattle.book.specs.declared.refusal.RecordCause.TheVariants.{NoRoom}
 use Rattle.lines.specs.Told.{Told, spell}
-use Rattle.lines.specs.Texts.{spell_all, Begins}
+use Rattle.lines.specs.Texts.{spell_all}
 use Rattle.filing.specs.declared.record.RowRecord.{RowRecord}
 use Rattle.filing.specs.declared.reader.Entry.{Entry}
 use Rattle.filing.specs.declared.reader.Entry.TheVariants as entry
 use Rattle.filing.specs.declared.scan.Scan.{Scan}
-use Rattle.filing.specs.Standing.{Standing, at_start, after, after_all, line_rows, all_rows}
+use Rattle.filing.specs.Standing.{at_start, after, after_all, line_rows, all_rows}
 use Rattle.filing.specs.Follows.{may_end}
 use Rattle.filing.specs.Judging.{HasNoRoom, Passes}
-use Rattle.filing.specs.Reading.{Full, OtherRow, Reached, Accepted, Stopped, Stops, Refused, met, at, filled, record_refusal}
-use Rattle.filing.specs.Readers.{AnyRow, Kept, Adds, Taken}
+use Rattle.filing.specs.Reading.{Reached, Accepted, Stops, Refused, met, at, filled, record_refusal}
+use Rattle.filing.specs.Readers.{AnyRow, Kept, Adds}
 use Rattle.filing.specs.Scanning.{standing_at, Opened, Ended, Stepped}
 use Rattle.filing.proofs.Judged.{first_room}
 use Rattle.filing.proofs.Texts.{after_push, rows_push, reached_more, row_count, rows_few, spell_long, kept_more, passes_with, stops_with, no_row, HasRow, has_row, put_row}

@@ -1,13 +1,13 @@
 -- Gathering what the lines of a text say, line by line.
-use Rattle.std.proofs.Common.{◌≡◌, ℕ, ◌+◌, ◌<◌, ◌≤◌, max, Bool, true, false, ◌⊎◌, List, [], ◌∷◌, ◌++◌, map, length, take, Some, None, Option, sym, refl, ap, ◌∙◌, subst, inl, inr, ⊎_elim, append-nil, arith, length-append, length-take}
+use Rattle.std.proofs.Common.{◌≡◌, ℕ, ◌+◌, ◌<◌, ◌≤◌, max, true, false, ◌⊎◌, List, [], ◌∷◌, ◌++◌, map, length, Some, None, Option, sym, refl, ap, ◌∙◌, subst, inl, inr, ⊎_elim, arith, length-append, length-take}
 use borrow.Author.Tests.{clash}
 use Rattle.std.proofs.lemmas.List.{length-map}
 use Rattle.std.proofs.str.Laws.{order}
 use Rattle.book.specs.Lists.{Below}
 use Rattle.book.specs.Scopes.{named}
 use Rattle.book.specs.declared.scope.Scope.{Scope}
-use Rattle.book.specs.declared.refusal.RecordCause.TheVariants.{Misplaced, TooMany, WrongName}
-use Rattle.lines.specs.Told.{Told, locks, holders, table, row, differ, same, join, bar, kind_of, Named, Good}
+use Rattle.book.specs.declared.refusal.RecordCause.TheVariants.{TooMany}
+use Rattle.lines.specs.Told.{Told, locks, holders, table, row, differ, same, join, bar, Named, Good}
 use Rattle.lines.specs.declared.kind.Kind.{Kind}
 use Rattle.lines.specs.declared.kind.Kind.TheVariants as kind
 use Rattle.filing.specs.declared.draft.Draft.{Draft}
@@ -17,10 +17,10 @@ use Rattle.filing.specs.declared.reader.Entry.TheVariants as entry
 use Rattle.filing.specs.declared.record.RowRecord.{RowRecord}
 use Rattle.filing.specs.declared.scan.Scan.{Scan}
 use Rattle.filing.specs.Contents.{gather, line_scopes, Ruling, line_rules, line_joins, Pair, line_bars, scopes_of, rules_of, joins_of, bars_of, barred_in_turn, BookOf, ruled_by}
-use Rattle.filing.specs.Drafts.{entry_scopes, entry_rules, entry_joins, entry_bars, Holds, RoomFor, Extends, noted_joins}
+use Rattle.filing.specs.Drafts.{entry_scopes, entry_rules, entry_joins, Holds, RoomFor, Extends, noted_joins}
 use Rattle.filing.specs.Follows.{may_follow, may_end}
 use Rattle.filing.specs.Judging.{Passes}
-use Rattle.filing.specs.Readers.{AnyRow, Adds, Over, Taken}
+use Rattle.filing.specs.Readers.{AnyRow, Adds, Over}
 use Rattle.book.specs.Layers.{bar_at}
 use Rattle.book.specs.declared.refusal.Refusal.{Refusal}
 use Rattle.filing.specs.declared.names.NameList.{NameList}

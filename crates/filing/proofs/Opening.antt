@@ -1,19 +1,16 @@
 -- The two lists come first and stay, and what stands is sound.
-use Rattle.std.proofs.Common.{◌≡◌, ℕ, ◌+◌, ◌<◌, ◌≤◌, Bool, true, false, ◌||◌, eqb, List, [], ◌∷◌, ◌++◌, length, get_or, Some, None, Option, sym, refl, ap, ◌∙◌, subst, ⊎_elim, arith, length-append, rules, eqb-true}
+use Rattle.std.proofs.Common.{◌≡◌, ℕ, ◌<◌, ◌≤◌, Bool, true, false, ◌||◌, eqb, List, [], length, get_or, Some, None, Option, refl, subst, ⊎_elim, arith, rules, eqb-true}
 use borrow.Author.Tests.{clash}
-use Rattle.std.specs.List.{AllByRecursion as All}
 use Rattle.std.proofs.str.Laws.{order}
 use Rattle.book.specs.declared.refusal.RecordCause.TheVariants.{Misplaced, TooMany, WrongName}
 use Rattle.lines.specs.Told.{Told, locks, holders, table, row, differ, same, join, bar, kind_of, Good}
 use Rattle.lines.specs.declared.kind.Kind.{Kind}
 use Rattle.lines.specs.declared.kind.Kind.TheVariants as kind
 use Rattle.filing.specs.Follows.{may_follow, may_end, kind_code}
-use Rattle.filing.specs.Standing.{Standing, at_start, after, after_all}
+use Rattle.filing.specs.Standing.{Standing, at_start, after}
 use Rattle.filing.specs.Judging.{Twice, Passes}
-use Rattle.filing.specs.Reading.{AllPass}
 use Rattle.filing.specs.Readers.{AnyRow}
 use Rattle.filing.specs.Resolving.{Listing}
-use Rattle.filing.specs.Contents.{gather, line_scopes, line_rules, line_joins, line_bars}
 
 -- both lists have been read
 abbrev pub opened : Option Kind → Bool

@@ -1,5 +1,5 @@
 -- What rules say of rows.
-use Rattle.std.proofs.Common.{◌≡◌, ℕ, ◌+◌, ◌*◌, ◌/◌, ◌%◌, ◌^◌, ◌<◌, ◌≤◌, Bool, true, false, cond, not, eqb, ltb, ◌⊎◌, List, [], ◌∷◌, map, length, get_or, set, Some, None, Option, sym, refl, ap, ◌∙◌, subst, inl, inr, one-mul, pow-suc, mul-one, arith}
+use Rattle.std.proofs.Common.{◌≡◌, ℕ, ◌+◌, ◌*◌, ◌/◌, ◌%◌, ◌^◌, ◌<◌, true, false, cond, eqb, List, [], ◌∷◌, map, length, get_or, set, Some, None, Option, sym, ap, ◌∙◌, subst, inl, inr, one-mul, pow-suc, mul-one, arith}
 use native.Mathlib.Nat.{pow-zero}
 use Rattle.std.proofs.lemmas.Nat.{div-mul-add, mod-mul-add}
 use Rattle.std.proofs.lemmas.List.{length-map, get_or-map, get_or-set_same, get_or-set_other, map-set}
@@ -11,10 +11,9 @@ use Rattle.book.proofs.Numbers.{below_cons, rows_numbered}
 use Rattle.filing.specs.declared.rule.RuleForm.{RuleForm}
 use Rattle.filing.specs.declared.rule.RuleForm.TheVariants.{Differ, Same}
 use Rattle.filing.specs.declared.rule.Rule.{Rule}
-use Rattle.filing.specs.declared.rule.RuleBook.{RuleBook}
 use Rattle.filing.specs.Scopes.{scope_at}
 use Rattle.filing.specs.Shapes.{has_row}
-use Rattle.filing.specs.Rules.{permits, Permits, ruled, rule_at, by_rules, RuledRow, RowsRuled}
+use Rattle.filing.specs.Rules.{permits, Permits, ruled, rule_at, by_rules, RowsRuled}
 
 pub rule_read : (rs : List Rule) (t : ℕ) (r : Rule) (H row : ℕ) → t < length rs → rule_at rs t H row ≡ ruled (get_or rs t r) H row
 rule_read rs t r H row h = ap (λ f. f H row) (get_or-map ruled rs t r (λ H row. None) h)

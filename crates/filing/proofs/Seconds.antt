@@ -1,12 +1,12 @@
 -- The second call after the first: each row is found where the first call put it.
-use Rattle.std.proofs.Common.{◌≡◌, ℕ, ◌+◌, ◌<◌, ◌≤◌, List, [], ◌∷◌, ◌++◌, length, get_or, drop, sym, refl, ap, ◌∙◌, subst, append_assoc, add-zero, arith, length-append}
+use Rattle.std.proofs.Common.{◌≡◌, ℕ, ◌+◌, ◌<◌, List, [], ◌∷◌, ◌++◌, length, get_or, drop, sym, refl, ap, ◌∙◌, subst, append_assoc, add-zero, arith, length-append}
 use Rattle.std.proofs.lemmas.List.{get_or-append-add}
 use Rattle.book.specs.declared.refusal.RecordCause.TheVariants.{Misplaced, TooMany, WrongName, NotRising, NoRoom}
 use Rattle.lines.specs.Told.{Told, locks, holders, table, row, differ, same, join, bar}
 use Rattle.filing.specs.declared.record.RowRecord.{RowRecord}
-use Rattle.filing.specs.Standing.{Standing, at_start, after, after_all, line_rows, all_rows, record_of}
+use Rattle.filing.specs.Standing.{Standing, at_start, after, line_rows, all_rows, record_of}
 use Rattle.filing.specs.Judging.{HasNoRoom, Passes}
-use Rattle.filing.specs.Reading.{Full, OtherRow, AllPass, Accepted, filled}
+use Rattle.filing.specs.Reading.{Full, OtherRow, AllPass, filled}
 use Rattle.filing.specs.Verdicts.{SecondFollows}
 use Rattle.filing.proofs.Texts.{line_count}
 

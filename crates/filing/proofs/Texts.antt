@@ -1,11 +1,9 @@
 -- One line more of a text: what stands then, its rows, and that all lines before pass.
-use Rattle.std.proofs.Common.{◌≡◌, ℕ, ◌+◌, ◌<◌, ◌≤◌, true, false, List, [], ◌∷◌, ◌++◌, length, get_or, drop, set, sym, refl, ap, ◌∙◌, subst, ⊎_elim, append_assoc, append-nil, add-zero, add_assoc, arith, length-append, length-drop}
-use Rattle.std.specs.List.{AllByRecursion as All}
+use Rattle.std.proofs.Common.{◌≡◌, ℕ, ◌+◌, ◌<◌, ◌≤◌, List, [], ◌∷◌, ◌++◌, length, drop, set, sym, refl, ap, ◌∙◌, subst, ⊎_elim, append_assoc, append-nil, arith, length-append, length-drop}
 use Rattle.std.proofs.ByRecursion.{All-push}
 use Rattle.std.proofs.lemmas.List.{drop-drop}
 use Rattle.std.proofs.str.Laws.{order}
 use Rattle.book.specs.declared.refusal.Refusal.{Refusal}
-use Rattle.book.specs.declared.refusal.RecordCause.{RecordCause}
 use Rattle.book.specs.declared.refusal.RecordCause.TheVariants.{Misplaced, TooMany, WrongName, NotRising, NoRoom}
 use Rattle.lines.specs.Told.{Told, locks, holders, table, row, differ, same, join, bar, spell, Good}
 use Rattle.lines.specs.Texts.{spell_all, Begins}
@@ -13,9 +11,9 @@ use Rattle.filing.specs.declared.record.RowRecord.{RowRecord}
 use Rattle.filing.specs.declared.reader.Entry.{Entry}
 use Rattle.filing.specs.declared.reader.Entry.TheVariants as entry
 use Rattle.filing.specs.Standing.{Standing, at_start, after, after_all, line_rows, all_rows}
-use Rattle.filing.specs.Judging.{Met, HasNoRoom, FirstMet, Passes}
-use Rattle.filing.specs.Reading.{AllPass, Reached, Accepted, Stops, no_line, met, ended, filled}
-use Rattle.filing.specs.Readers.{AnyRow, Kept, Adds, Taken}
+use Rattle.filing.specs.Judging.{HasNoRoom, Passes}
+use Rattle.filing.specs.Reading.{AllPass, Reached, Accepted, Stops, no_line, met, ended}
+use Rattle.filing.specs.Readers.{AnyRow, Kept, Adds}
 use Rattle.filing.proofs.Judged.{first_any, room}
 
 pub after_push : (s : Standing) (ts : List Told) (t : Told) → after_all s (ts ++ (t ∷ [])) ≡ after (after_all s ts) t

@@ -1,22 +1,21 @@
 -- A text is cut into lines in one way, and the first line that meets a condition is one.
-use Rattle.std.proofs.Common.{◌≡◌, ℕ, ◌+◌, ◌<◌, ◌≤◌, true, false, ◌⊎◌, List, [], ◌∷◌, ◌++◌, length, get_or, drop, sym, refl, ap, ◌∙◌, subst, inl, inr, ⊎_elim, append_assoc, append-nil, arith, length-append}
+use Rattle.std.proofs.Common.{◌≡◌, ℕ, ◌+◌, true, List, [], ◌∷◌, ◌++◌, length, sym, refl, ap, ◌∙◌, subst, ⊎_elim, append_assoc, append-nil, arith, length-append}
 use borrow.Author.Tests.{clash}
 use Rattle.std.specs.List.{AllByRecursion as All}
-use Rattle.std.proofs.lemmas.List.{get_or_append_left, get_or-append_right, get_or-append-add}
 use Rattle.std.proofs.str.Laws.{order}
 use Rattle.book.specs.Refusals.{record_number}
 use Rattle.book.specs.declared.refusal.Refusal.{Refusal}
 use Rattle.book.specs.declared.refusal.RecordCause.{RecordCause}
 use Rattle.book.specs.declared.refusal.RecordCause.TheVariants.{Misplaced, TooMany, WrongName, NotRising, NoRoom}
 use Rattle.lines.specs.Told.{Told, spell, Good}
-use Rattle.lines.specs.Texts.{spell_all, Begins, NoLine, no_form}
+use Rattle.lines.specs.Texts.{spell_all, Begins}
 use Rattle.lines.proofs.Cutting.{one_place}
 use Rattle.lines.proofs.Spelling.{lacks_spell, one_value, one_reading}
 use Rattle.filing.specs.declared.record.RowRecord.{RowRecord}
 use Rattle.filing.specs.Follows.{may_end}
-use Rattle.filing.specs.Standing.{Standing, at_start, after, after_all, line_rows, all_rows}
+use Rattle.filing.specs.Standing.{Standing, at_start, after, after_all}
 use Rattle.filing.specs.Judging.{Met, FirstMet, Passes}
-use Rattle.filing.specs.Reading.{Full, OtherRow, AllPass, Reached, Accepted, Stopped, Stops, no_line, met, ended, Refused, long, at, filled, record_refusal, too_long}
+use Rattle.filing.specs.Reading.{AllPass, Accepted, Stops, no_line, met, ended, Refused, long, at, record_refusal}
 use Rattle.filing.specs.Verdicts.{OneVerdict}
 
 -- the line that begins a text is one, and so is what follows it

@@ -1,5 +1,5 @@
 -- The contents of a case as they are gathered, entry by entry.
-use Rattle.std.specs.Prelude.{◌≡◌, ℕ, ◌<◌, ◌≤◌, Bool, false, List, [], ◌∷◌, ◌++◌, map, length, take}
+use Rattle.std.specs.Prelude.{◌≡◌, ℕ, ◌<◌, false, List, [], ◌∷◌, ◌++◌, map, length, take}
 use Rattle.book.specs.Layers.{bar_at}
 use Rattle.book.specs.Scopes.{named}
 use Rattle.filing.specs.declared.draft.Draft.{Draft}

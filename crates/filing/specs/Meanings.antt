@@ -1,7 +1,6 @@
 -- What an accepted text means.
 use Rattle.std.specs.Prelude.{◌≡◌, ℕ, false, List, [], map, length, MatchOption}
 use Rattle.book.specs.Layers.{bar_at}
-use Rattle.book.specs.declared.refusal.Refusal.{Refusal}
 use Rattle.lines.specs.Told.{Told}
 use Rattle.filing.specs.declared.draft.Draft.{Draft}
 use Rattle.filing.specs.declared.names.NameList.{NameList}

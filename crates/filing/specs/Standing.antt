@@ -1,5 +1,5 @@
 -- What the lines so far say, as far as the next line is judged by it.
-use Rattle.std.specs.Prelude.{◌≡◌, ℕ, ◌+◌, ◌-◌, ◌≤◌, min, cond, List, [], ◌∷◌, ◌++◌, map, length, Some, None, Option}
+use Rattle.std.specs.Prelude.{ℕ, ◌+◌, ◌-◌, min, cond, List, [], ◌∷◌, ◌++◌, map, length, Some, None, Option}
 use Rattle.std.proofs.Math.Nat.{min-le_right}
 use Rattle.std.specs.Str.{bytes_eq}
 use Rattle.weighing.specs.declared.charge.Charge.{Charge}

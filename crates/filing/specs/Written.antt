@@ -1,5 +1,5 @@
 -- What a written book means.
-use Rattle.std.specs.Prelude.{◌≡◌, ℕ, ◌^◌, ◌<◌, Bool, cond, ◌&&◌, List, [], ◌∷◌, ◌++◌, length, Some, None, Option, ◌==◌}
+use Rattle.std.specs.Prelude.{◌≡◌, ℕ, ◌^◌, ◌<◌, cond, ◌&&◌, List, [], ◌∷◌, ◌++◌, length, Some, None, Option, ◌==◌}
 use Rattle.weighing.specs.declared.charge.Charge.{Charge}
 use Rattle.book.specs.Books.{Meaning}
 use Rattle.filing.specs.declared.record.RowRecord.{RowRecord}

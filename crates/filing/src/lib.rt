@@ -1,4 +1,6 @@
 // Filing: the row records that a caller lends, the two books that reading a text fills, and the reader.
+#![tactic(auto)]
+
 mod check;
 mod draft;
 mod fill;

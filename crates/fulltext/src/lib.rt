@@ -1,1 +1,3 @@
+#![tactic(auto)]
+
 // The full text of a case, as lines; what it means when it is read. Definitions and theorems.

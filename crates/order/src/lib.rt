@@ -1,4 +1,6 @@
 // Orders: which lists of joins a book's tables can be joined by, and the plan that an accepted order is carried out by.
+#![tactic(auto)]
+
 mod checks;
 mod marks;
 mod nodes;

@@ -1,20 +1,19 @@
 -- Totals and sheet numbers of a book with bars, over the permitted assignments.
-use Rattle.std.proofs.Common.{◌≡◌, ℕ, zero, suc, ◌+◌, ◌^◌, ◌<◌, ◌≤◌, Bool, true, false, cond, not, ◌&&◌, ◌||◌, ◌⊎◌, ◌↔◌, List, [], ◌∷◌, map, length, get_or, is_some, Some, None, filter, Option, sym, refl, ap, ◌∙◌, subst, ap₂, inl, inr, arith}
-use Rattle.std.specs.List.{range_with_len, AllByRecursion as All}
+use Rattle.std.proofs.Common.{◌≡◌, ℕ, ◌^◌, ◌<◌, Bool, true, false, cond, not, ◌&&◌, List, [], ◌∷◌, map, is_some, Some, None, filter, Option, sym, refl, ap, ◌∙◌, subst, ap₂, inl, inr, arith}
+use Rattle.std.specs.List.{AllByRecursion as All}
 use Rattle.std.proofs.ByRecursion.{All-from_get_or, all_kept_by, All-weaker}
-use Rattle.std.proofs.lemmas.List.FromFn.{length-map-range_with_len, get_or-map-range_with_len}
-use Rattle.std.proofs.lemmas.Bool.{cases_Bool, and_parts, and_cases}
+use Rattle.std.proofs.lemmas.Bool.{cases_Bool, and_parts}
 use Rattle.weighing.specs.declared.charge.Charge.{Charge}
-use Rattle.weighing.specs.Semirings.{Operations, Semiring, either_over, Better}
+use Rattle.weighing.specs.Semirings.{either_over, Better}
 use Rattle.weighing.specs.Laws.{Algebra, Lawful}
 use Rattle.book.specs.Books.{Meaning, Ranged}
-use Rattle.book.specs.Layers.{touches, barred}
+use Rattle.book.specs.Layers.{barred}
 use Rattle.aggregation.specs.declared.join.Join.{Join}
 use Rattle.aggregation.specs.Sets.{among}
 use Rattle.aggregation.specs.Rows.{rows}
-use Rattle.aggregation.specs.Nets.{Shape, Net, Sound, Covered}
-use Rattle.aggregation.specs.Orders.{Accepted, total, table_outside}
-use Rattle.aggregation.specs.Listing.{Assignment, at, assignment, assignments, has_row, has_holder, permitted, weigh, Tests}
+use Rattle.aggregation.specs.Nets.{Sound}
+use Rattle.aggregation.specs.Orders.{Accepted, total}
+use Rattle.aggregation.specs.Listing.{Assignment, has_row, has_holder, permitted, Tests}
 use Rattle.aggregation.proofs.Bools.{clash}
 use Rattle.aggregation.proofs.RowSums.{either_kept}
 use Rattle.aggregation.proofs.Listing.{is_assignment, listed_long, listed_at}
@@ -23,7 +22,7 @@ use Rattle.aggregation.proofs.Permitted.{none_exactly, best_listed}
 use Rattle.order.specs.Shapes.{shape_of}
 use Rattle.permits.specs.Networks.{weight_of, net_of}
 use Rattle.permits.specs.Permits.{permits, uses_bar, allowed, every, weight, either_of}
-use Rattle.permits.specs.Claims.{TotalPermitted, SheetPermitted, LockPermitted, WeighsPermitted, BestPermitted, sheet_number, lock_number}
+use Rattle.permits.specs.Claims.{sheet_number, lock_number}
 use Rattle.permits.proofs.Bars.{weigh_barred}
 
 -- a book's shape is sound

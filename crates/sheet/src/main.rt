@@ -1,4 +1,6 @@
 // Tells whether a text on standard input can be filed as a case: how many rows it lists, or the first refusal.
+#![tactic(auto)]
+
 use book::Refusal;
 use filing::{RowRecord, fill_rows};
 use std::io::Read;

@@ -1,4 +1,4 @@
-use Rattle.std.proofs.Common.{◌≡◌, length, Err, sym, refl, ap, subst}
+use Rattle.std.proofs.Common.{length, Err, sym, ap, subst}
 use Rattle.engine.specs.declared.question.Question.TheVariants.{TableSheet, LockSheet}
 use Rattle.order.specs.Shapes.{shape_of}
 use Rattle.engine.specs.Laws.{asked, Law}

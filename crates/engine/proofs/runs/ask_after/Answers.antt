@@ -1,4 +1,4 @@
-use Rattle.std.proofs.Common.{◌≡◌, List, [], ◌∷◌, ◌++◌, length, get_or, take, sym, refl, ap, ◌∙◌, subst, take_all}
+use Rattle.std.proofs.Common.{get_or, take, sym, refl, ap, ◌∙◌, subst, take_all}
 use Rattle.std.proofs.lemmas.List.{take_more}
 use Rattle.order.specs.Shapes.{shape_of}
 use Rattle.engine.specs.declared.call.Call.TheVariants.{Total}

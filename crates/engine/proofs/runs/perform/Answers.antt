@@ -1,4 +1,4 @@
-use Rattle.std.proofs.Common.{◌≡◌, sym, refl, ap}
+use Rattle.std.proofs.Common.{sym, refl, ap}
 use Rattle.engine.specs.Views.{shape_now, bars_now, order_now, meaning_now}
 use Rattle.engine.specs.Standing.{order_left, bars_left}
 use Rattle.engine.proofs.Parts.{table_leaves}

@@ -1,11 +1,11 @@
-use Rattle.std.proofs.Common.{◌≡◌, [], ◌∷◌, ◌++◌, get_or, sym, refl, ap, ◌∙◌, subst, arith}
+use Rattle.std.proofs.Common.{[], ◌∷◌, ◌++◌, get_or, sym, refl, ap, ◌∙◌, arith}
 use borrow.Author.Tests.{clash}
 use Rattle.std.proofs.lemmas.List.{get_or_default, take_more}
 use Rattle.std.proofs.lemmas.Result.{err_from_is_err_and}
 use Rattle.book.specs.declared.refusal.RecordCause.TheVariants.{NoRoom}
 use Rattle.filing.specs.Reading.{OtherRow, record_refusal}
 use Rattle.filing.specs.Standing.{at_start, all_rows}
-use Rattle.filing.proofs.Filling.{Sofar, start, rows_room, place_room, done, refused, pass, add, stuck, same_rows, one_row, shorter, stepped_at}
+use Rattle.filing.proofs.Filling.{start, rows_room, place_room, refused, pass, add, stuck, same_rows, one_row, shorter, stepped_at}
 use Rattle.filing.proofs.check.check_rows.Goals as goal
 
 pub loop-entry-init : goal.loop-entry-init

@@ -1,8 +1,8 @@
-use Rattle.std.proofs.Common.{◌≡◌, [], ◌∷◌, ◌++◌, sym, refl, ap, ◌∙◌, subst, arith}
+use Rattle.std.proofs.Common.{[], ◌∷◌, ◌++◌, refl, ap, ◌∙◌, arith}
 use Rattle.std.proofs.lemmas.Result.{err_from_is_err_and}
 use Rattle.book.specs.declared.refusal.RecordCause.TheVariants.{NoRoom}
 use Rattle.filing.specs.Reading.{Full, record_refusal}
-use Rattle.filing.proofs.Filling.{Sofar, start, rows_room, place_room, done, refused, pass, same_list, add, more_list, stuck, shorter, stepped_at}
+use Rattle.filing.proofs.Filling.{start, rows_room, place_room, refused, pass, same_list, add, more_list, stuck, shorter, stepped_at}
 use Rattle.filing.proofs.fill.fill_rows.Goals as goal
 
 pub loop-entry-init : goal.loop-entry-init

@@ -1,6 +1,5 @@
-use Rattle.std.proofs.Common.{◌≡◌, true, false, sym, refl, ◌∙◌, arith, below_more}
+use Rattle.std.proofs.Common.{sym, refl, ◌∙◌, arith, below_more}
 use borrow.Author.Tests.{clash}
-use Rattle.lines.specs.Told.{held}
 use Rattle.filing.proofs.resolve.has_twice.Goals as goal
 use Rattle.filing.proofs.resolve.has_twice.Goals.{in-Some-find+else-first-i, in_default-find}
 

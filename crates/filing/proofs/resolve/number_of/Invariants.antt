@@ -1,4 +1,4 @@
-use Rattle.std.proofs.Common.{◌≡◌, ◌^◌, ◌<◌, take}
+use Rattle.std.proofs.Common.{◌≡◌, take}
 use Rattle.book.specs.Rows.{row_number}
 use Rattle.filing.proofs.resolve.number_of.Given as goal
 

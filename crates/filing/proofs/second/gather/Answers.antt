@@ -1,9 +1,7 @@
-use Rattle.std.proofs.Common.{◌≡◌, max, [], ◌∷◌, ◌++◌, length, sym, refl, ap, ◌∙◌, subst, arith}
-use Rattle.filing.specs.Readers.{AnyRow}
+use Rattle.std.proofs.Common.{max, [], ◌∷◌, ◌++◌, length, sym, ap, ◌∙◌, subst, arith}
 use Rattle.filing.specs.Resolving.{names_of, Listing}
-use Rattle.filing.specs.Scanning.{standing_at}
 use Rattle.filing.proofs.Filling.{rows_room, place_room, shorter}
-use Rattle.filing.proofs.Gathering.{Gathered, begin, room_here, next_sound, add_entry, add_names, meant_by}
+use Rattle.filing.proofs.Gathering.{begin, room_here, next_sound, add_entry, add_names, meant_by}
 use Rattle.filing.proofs.second.gather.Goals as goal
 
 pub loop-entry-init : goal.loop-entry-init

@@ -1,7 +1,7 @@
-use Rattle.std.proofs.Common.{◌≡◌, sym, refl, subst}
+use Rattle.std.proofs.Common.{sym, refl, subst}
 use Rattle.filing.specs.declared.draft.Draft.{Draft}
 use Rattle.filing.specs.Drafts.{Extends}
-use Rattle.filing.proofs.Drafting.{hold_table, hold_differ, hold_same, hold_join, hold_bar, hold_none}
+use Rattle.filing.proofs.Drafting.{hold_table, hold_differ, hold_same, hold_bar}
 use Rattle.filing.proofs.draft.Draft.add.Goals as goal
 
 pub returns-in-Table : goal.returns-in-Table

@@ -1,4 +1,4 @@
-use Rattle.std.proofs.Common.{refl, arith}
+use Rattle.std.proofs.Common.{arith}
 use Rattle.filing.specs.Contents.{barred_in_turn}
 use Rattle.filing.proofs.draft.Draft.new.Goals as goal
 

@@ -1,4 +1,4 @@
-use Rattle.std.proofs.Common.{◌≡◌, ◌<◌, length, take, sym, ap, ◌∙◌, subst, arith, length-take}
+use Rattle.std.proofs.Common.{◌<◌, length, take, sym, ap, ◌∙◌, subst, arith, length-take}
 use native.Mathlib.Nat.{sub-zero}
 use Rattle.book.specs.Lists.{Rising, Below}
 use Rattle.filing.proofs.Naming.{all_listed}

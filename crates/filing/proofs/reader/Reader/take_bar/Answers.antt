@@ -1,13 +1,11 @@
-use Rattle.std.proofs.Common.{◌≡◌, true, false, ◌⊎◌, Some, sym, refl, ap, ◌∙◌, subst, inl, inr, ⊎_elim, arith}
+use Rattle.std.proofs.Common.{sym, refl, ◌∙◌, subst, ⊎_elim}
 use borrow.Author.Tests.{clash}
 use Rattle.lines.specs.Told.{bar}
-use Rattle.lines.specs.declared.kind.Kind.TheVariants as kind
 use Rattle.filing.specs.Standing.{place_of}
 use Rattle.filing.specs.Judging.{NotAbove}
-use Rattle.filing.specs.Resolving.{names_of, Found}
 use Rattle.filing.specs.Readers.{AnyRow, standing_of}
 use Rattle.filing.proofs.Naming.{found_there}
-use Rattle.filing.proofs.Judged.{first_falls, all_pass, room}
+use Rattle.filing.proofs.Judged.{first_falls, all_pass}
 use Rattle.filing.proofs.reader.Reader.take_bar.Goals as goal
 use Rattle.filing.proofs.reader.Reader.take_bar.Goals.{else-again-via-then-again+else-not_above, else-again-via-else-again}
 

@@ -1,14 +1,14 @@
-use Rattle.std.proofs.Common.{◌≡◌, ℕ, ◌≤◌, true, false, ◌⊎◌, List, length, sym, refl, ap, ◌∙◌, subst, inl, inr, ⊎_elim, arith}
+use Rattle.std.proofs.Common.{◌≡◌, ℕ, List, length, sym, ap, ◌∙◌, subst, inl, inr, ⊎_elim, arith}
 use borrow.Author.Tests.{clash}
 use Rattle.book.specs.Lists.{Below}
 use Rattle.book.specs.Rows.{row_number}
 use Rattle.lines.specs.Told.{row, held}
 use Rattle.filing.specs.Standing.{places, row_of}
-use Rattle.filing.specs.Resolving.{names_of, noted, Noted}
+use Rattle.filing.specs.Resolving.{noted, Noted}
 use Rattle.filing.specs.declared.resolve.Places.{Places}
 use Rattle.filing.specs.Readers.{AnyRow, standing_of}
 use Rattle.filing.proofs.Naming.{all_listed, places_many}
-use Rattle.filing.proofs.Judged.{first_falls, all_pass, room}
+use Rattle.filing.proofs.Judged.{first_falls, all_pass}
 use Rattle.filing.proofs.reader.Reader.take_row.Goals as goal
 use Rattle.filing.proofs.reader.Reader.take_row.Goals.{else-again-via-then-again+else-row-self, else-again-via-else-again}
 

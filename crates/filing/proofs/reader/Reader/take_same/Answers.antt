@@ -1,4 +1,4 @@
-use Rattle.std.proofs.Common.{refl, ap, ◌∙◌}
+use Rattle.std.proofs.Common.{ap, ◌∙◌}
 use Rattle.lines.specs.Told.{held, same}
 use Rattle.lines.specs.declared.kind.Kind.TheVariants as kind
 use Rattle.filing.specs.Standing.{add_table}

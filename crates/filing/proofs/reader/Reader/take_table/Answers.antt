@@ -3,7 +3,6 @@ use Rattle.lines.specs.Told.{held, table}
 use Rattle.lines.specs.declared.kind.Kind.TheVariants as kind
 use Rattle.filing.specs.Standing.{add_table}
 use Rattle.filing.specs.Readers.{standing_of}
-use Rattle.filing.specs.declared.reader.Entry.TheVariants as entry
 use Rattle.filing.proofs.Judged.{is_table, scope_passes}
 use Rattle.filing.proofs.reader.Reader.take_table.Goals as goal
 

@@ -1,4 +1,4 @@
-use Rattle.std.proofs.Common.{◌≡◌, ℕ, ◌<◌, List, length, set, sym, ap, ◌∙◌, subst, arith}
+use Rattle.std.proofs.Common.{◌≡◌, length, set, sym, ap, ◌∙◌, subst, arith}
 use Rattle.filing.specs.Scopes.{scope_at}
 use Rattle.filing.specs.Rules.{ruled, rule_at}
 use Rattle.filing.proofs.Shaped.{scope_each}

@@ -1,4 +1,4 @@
-use Rattle.std.proofs.Common.{◌≡◌, sym, ◌∙◌, true-eqb}
+use Rattle.std.proofs.Common.{sym, true-eqb}
 use Rattle.filing.specs.Reading.{met, ended}
 use Rattle.filing.proofs.Naming.{empty_is}
 use Rattle.filing.proofs.scan.Scan.next.Goals as goal

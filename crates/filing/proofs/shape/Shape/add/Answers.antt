@@ -1,4 +1,4 @@
-use Rattle.std.proofs.Common.{◌≡◌, ℕ, ◌<◌, ◌≤◌, List, [], length, arith}
+use Rattle.std.proofs.Common.{◌≡◌, ◌<◌, ◌≤◌, [], length, arith}
 use Rattle.book.specs.Lists.{Rising, Below}
 use Rattle.filing.proofs.Shaped.{scope_each}
 use Rattle.filing.proofs.shape.Shape.add.Goals as goal

@@ -1,4 +1,4 @@
-use Rattle.std.proofs.Common.{ℕ, ◌≤◌, List, [], length, replicate, sym, subst, arith}
+use Rattle.std.proofs.Common.{◌≤◌, length, sym, subst, arith}
 use Rattle.book.specs.Lists.{Rising, Below}
 use Rattle.filing.proofs.Shaped.{scope_none}
 use Rattle.filing.proofs.shape.Shape.new.Goals as goal

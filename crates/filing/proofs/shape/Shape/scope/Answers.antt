@@ -1,5 +1,5 @@
 use Rattle.std.proofs.Common.{sym, ◌∙◌, arith}
-use Rattle.filing.proofs.Shaped.{scope_read, scope_past}
+use Rattle.filing.proofs.Shaped.{scope_read}
 use Rattle.filing.proofs.shape.Shape.scope.Goals as goal
 
 pub returns-then-table-lt64 : goal.returns-then-table-lt64

@@ -1,4 +1,4 @@
-use Rattle.std.proofs.Common.{◌≡◌, false, ◌&&◌, eqb, None, sym, refl, ◌∙◌, arith}
+use Rattle.std.proofs.Common.{◌≡◌, false, ◌&&◌, eqb, None, sym, refl, ◌∙◌}
 use Rattle.std.proofs.lemmas.Bool.{and_left, and_right, ne_eqb, cond-true}
 use Rattle.filing.specs.Shapes.{has_row}
 use Rattle.filing.specs.Written.{listed}
