@@ -1,7 +1,7 @@
 -- A text is cut into lines in one way, and the first line that meets a condition is one.
 use Rattle.std.proofs.Common.{◌≡◌, ℕ, ◌+◌, true, List, [], ◌∷◌, ◌++◌, length, sym, refl, ap, ◌∙◌, subst, ⊎_elim, append_assoc, append-nil, arith, length-append}
 use borrow.Author.Tests.{clash}
-use Rattle.std.specs.List.{AllByRecursion as All}
+use Rattle.std.specs.List.{AllByRecursion}
 use Rattle.std.proofs.str.Laws.{order}
 use Rattle.book.specs.Refusals.{record_number}
 use Rattle.book.specs.declared.refusal.Refusal.{Refusal}
@@ -45,7 +45,7 @@ module _ (Bad : ℕ → RowRecord → Type 0) where
     lines : ts ≡ us
     rest : x ≡ y
 
-  same_stop : (s : Standing) (p q : ℕ) (ts us : List Told) (x y : List ℕ) (e f : Refusal) → All Good ts → All Good us → AllPass Bad s ts → AllPass Bad s us → spell_all ts ++ x ≡ spell_all us ++ y → Stops Bad (after_all s ts) p x e → Stops Bad (after_all s us) q y f → SameStop ts us x y
+  same_stop : (s : Standing) (p q : ℕ) (ts us : List Told) (x y : List ℕ) (e f : Refusal) → AllByRecursion Good ts → AllByRecursion Good us → AllPass Bad s ts → AllPass Bad s us → spell_all ts ++ x ≡ spell_all us ++ y → Stops Bad (after_all s ts) p x e → Stops Bad (after_all s us) q y f → SameStop ts us x y
   same_stop s p q [] [] x y e f gt gu pt pu w a b = record { lines = refl; rest = w }
   same_stop s p q [] (u ∷ us) x y e f gt gu pt pu w a b =
       absurd (goes_on s p x (spell_all us ++ y) e u (record { good = gu.0; is = w ∙ append_assoc (spell u) (10 ∷ spell_all us) y }) pu.0 a)
@@ -110,7 +110,7 @@ module _ (Bad : ℕ → RowRecord → Type 0) where
 
   -- an accepted text is stopped nowhere
 
-  not_stopped : (s : Standing) (q : ℕ) (ts us : List Told) (y : List ℕ) (f : Refusal) → All Good ts → All Good us → AllPass Bad s ts → AllPass Bad s us → spell_all ts ++ [] ≡ spell_all us ++ y → may_end (after_all s ts).before ≡ true → Stops Bad (after_all s us) q y f → ⊥
+  not_stopped : (s : Standing) (q : ℕ) (ts us : List Told) (y : List ℕ) (f : Refusal) → AllByRecursion Good ts → AllByRecursion Good us → AllPass Bad s ts → AllPass Bad s us → spell_all ts ++ [] ≡ spell_all us ++ y → may_end (after_all s ts).before ≡ true → Stops Bad (after_all s us) q y f → ⊥
   not_stopped s q [] [] y f gt gu pt pu w ends (no_line some none is) = omega (arith, ap length w)
   not_stopped s q [] [] y f gt gu pt pu w ends (met t next c b g is) = no_begin t y next b (sym w)
   not_stopped s q [] [] y f gt gu pt pu w ends (ended none unfit is) = clash (sym unfit ∙ ends)

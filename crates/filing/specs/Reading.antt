@@ -1,6 +1,6 @@
 -- What a text says, or what stops it first.
 use Rattle.std.specs.Prelude.{◌≡◌, ℕ, ◌+◌, ◌<◌, ◌≤◌, true, false, List, [], ◌∷◌, ◌++◌, length, drop, slice_index_or}
-use Rattle.std.specs.List.{AllByRecursion as All}
+use Rattle.std.specs.List.{AllByRecursion}
 use Rattle.book.specs.declared.refusal.Refusal.{Refusal}
 use Rattle.book.specs.declared.refusal.Layer.TheVariants.{Line, Record}
 use Rattle.book.specs.declared.refusal.LineCause.TheVariants.{TooLong}
@@ -28,7 +28,7 @@ AllPass Bad s (t ∷ ts) = Passes Bad s t × AllPass Bad (after s t) ts
 
 -- the text begins with these lines, which meet no condition, and goes on with the rest
 pub record Reached (Bad : ℕ → RowRecord → Type 0) (text : List ℕ) (ts : List Told) (rest : List ℕ) : Type 0 where
-  pub good : All Good ts
+  pub good : AllByRecursion Good ts
   pub whole : text ≡ spell_all ts ++ rest
   pub pass : AllPass Bad at_start ts
 

@@ -1,7 +1,7 @@
 -- Names of a line by their numbers in a list.
 use Rattle.std.specs.Prelude.{◌≡◌, ℕ, ◌<◌, ◌≤◌, List, [], length, take, Some, None, Option, ◌≢◌, slice_index_or}
 use Rattle.book.specs.Lists.{Below}
-use Rattle.std.specs.List.{AllByRecursion as All}
+use Rattle.std.specs.List.{AllByRecursion}
 use Rattle.lines.specs.Names.{Name}
 use Rattle.lines.specs.Told.{held}
 use Rattle.lines.specs.declared.names.Names.{Names}
@@ -32,5 +32,5 @@ pub record Noted (list ns : List (List ℕ)) (p : Places) : Type 0 where
 -- at most so many names, each well formed, none twice
 pub record Listing (most : ℕ) (ns : List (List ℕ)) : Type 0 where
   pub few : length ns ≤ most
-  pub formed : All Name ns
+  pub formed : AllByRecursion Name ns
   pub apart : (j k : ℕ) → j < k → k < length ns → slice_index_or ns j [] ≢ slice_index_or ns k []

@@ -1,6 +1,6 @@
 -- The statements. Each stands on the contract of a function of this crate, and so is proved.
 use Rattle.std.specs.Prelude.{◌≡◌, ℕ, ◌+◌, ◌<◌, ◌≤◌, Bool, true, List, [], ◌∷◌, ◌++◌, length, None}
-use Rattle.std.specs.List.{AllByRecursion as All}
+use Rattle.std.specs.List.{AllByRecursion}
 use Rattle.book.specs.Books.{Meaning, Ranged}
 use Rattle.book.specs.declared.refusal.RecordCause.TheVariants.{NoRoom}
 use Rattle.aggregation.specs.declared.join.Join.{Join}
@@ -40,7 +40,7 @@ pub record Spells (ls hs : List (List ℕ)) (m : Meaning) (js : List Join) (bars
 
 -- lines that can be filed, the row list left aside
 pub record Filable (ts : List Told) : Type 0 where
-  pub good : All Good ts
+  pub good : AllByRecursion Good ts
   pub pass : AllPass AnyRow at_start ts
   pub ends : may_end (after_all at_start ts).before ≡ true
 

@@ -1,7 +1,7 @@
 -- Lists that are split at the first of a mark, or where a run of bytes ends.
 use Rattle.std.proofs.Common.{◌≡◌, ℕ, ◌+◌, ◌-◌, ◌<◌, List, [], ◌∷◌, ◌++◌, length, get_or, take, drop, sym, refl, ap, ◌∙◌, subst, arith, length-append, take-append-drop}
 use native.Mathlib.Nat.{sub-zero}
-use Rattle.std.specs.List.{AllByRecursion as All}
+use Rattle.std.specs.List.{AllByRecursion}
 use Rattle.std.proofs.lemmas.List.{take_rest, drop_more}
 use Rattle.lines.specs.Cuts.{Lacks, Cut}
 
@@ -15,7 +15,7 @@ pub record Same (x y s t : List ℕ) : Type 0 where
   pub back : s ≡ t
 
 -- the longest front whose elements have P is one
-pub one_cut : (P : ℕ → Type 0) (x y s t : List ℕ) → x ++ s ≡ y ++ t → All P x → All P y → Ends P s → Ends P t → Same x y s t
+pub one_cut : (P : ℕ → Type 0) (x y s t : List ℕ) → x ++ s ≡ y ++ t → AllByRecursion P x → AllByRecursion P y → Ends P s → Ends P t → Same x y s t
 one_cut P [] [] s t e ax ay es et = record { front = refl; back = e }
 one_cut P [] (b ∷ y) [] t e ax ay es et = absurd (let z : ◌≡◌ {A = ℕ} 0 1 = cc in omega arith)
 one_cut P [] (b ∷ y) (c ∷ s) t e ax ay es et = absurd (let z : b ≡ c = cc in es (subst P z ay.0))

@@ -1,6 +1,6 @@
 -- Names and lists of names: how they begin, go on and end, and that a spelling has one list.
 use Rattle.std.proofs.Common.{◌≡◌, ℕ, ◌+◌, ◌-◌, ◌<◌, ◌≤◌, Bool, true, false, cond, eqb, ◌⊎◌, List, [], ◌∷◌, ◌++◌, length, get_or, take, drop, sym, refl, ap, ◌∙◌, subst, ⊎_elim, add-zero, arith, length-append, length-drop, take-append-drop, length-take-le, get_or-drop, take_all, ne_eqb}
-use Rattle.std.specs.List.{AllByRecursion as All}
+use Rattle.std.specs.List.{AllByRecursion}
 use Rattle.std.proofs.ByRecursion.{All-append, All-weaker, All-get_or}
 use Rattle.std.proofs.lemmas.List.{take_rest, drop_more, drop-drop}
 use Rattle.std.proofs.str.Laws.{order}
@@ -44,7 +44,7 @@ name_run n bs run name =
 pub record Head (n : ℕ) (rest : List ℕ) : Type 0 where
   pub name : Name (take n rest)
   pub others : List (List ℕ)
-  pub names : All Name others
+  pub names : AllByRecursion Name others
   pub after : more others ≡ drop n rest
 
 ends_more : (ms : List (List ℕ)) → Ends (λ b. name_byte b ≡ true) (more ms)
@@ -104,7 +104,7 @@ one_name bytes rest n count after sofar run some short e =
       onto [] h = absurd (omega (arith, h.some))
       onto (m ∷ ms) h = ap (λ t. 44 ∷ t) h.is
 
-      next : (os : List (List ℕ)) → All Name os → more os ≡ 44 ∷ after → (ms : List (List ℕ)) × Listed ms after
+      next : (os : List (List ℕ)) → AllByRecursion Name os → more os ≡ 44 ∷ after → (ms : List (List ℕ)) × Listed ms after
       next [] a q = absurd (omega (arith, ap length q))
       next (o ∷ os) a q = (o ∷ os, record { some = omega arith; names = a; is = let k : after ≡ o ++ more os = cc in k })
 
@@ -122,11 +122,11 @@ no_name c b p q e = let h = ap name_byte e in let z : ◌≡◌ {A = ℕ} 0 1 = 
 pub lacks_name : (c : ℕ) → name_byte c ≡ false → (n : List ℕ) → NameBytes n → Lacks c n
 lacks_name c p n h = All-weaker (λ b. name_byte b ≡ true) _ (λ b k. no_name c b p k) n h
 
-lacks_more : (c : ℕ) → name_byte c ≡ false → (44 ≡ c → ⊥) → (ns : List (List ℕ)) → All Name ns → Lacks c (more ns)
+lacks_more : (c : ℕ) → name_byte c ≡ false → (44 ≡ c → ⊥) → (ns : List (List ℕ)) → AllByRecursion Name ns → Lacks c (more ns)
 lacks_more c p q [] a = tt
 lacks_more c p q (n ∷ ns) a = (q, All-append _ n (more ns) (lacks_name c p n a.0.bytes) (lacks_more c p q ns a.1))
 
-pub lacks_joined : (c : ℕ) → name_byte c ≡ false → (44 ≡ c → ⊥) → (ns : List (List ℕ)) → All Name ns → Lacks c (joined ns)
+pub lacks_joined : (c : ℕ) → name_byte c ≡ false → (44 ≡ c → ⊥) → (ns : List (List ℕ)) → AllByRecursion Name ns → Lacks c (joined ns)
 lacks_joined c p q [] a = tt
 lacks_joined c p q (n ∷ ns) a = All-append _ n (more ns) (lacks_name c p n a.0.bytes) (lacks_more c p q ns a.1)
 
@@ -134,7 +134,7 @@ lacks_joined c p q (n ∷ ns) a = All-append _ n (more ns) (lacks_name c p n a.0
 comma_not : (b : ℕ) → name_byte b ≡ true → eqb b 44 ≡ false
 comma_not b h = ne_eqb b 44 (no_name 44 b refl h)
 
-pieces_of : (n : List ℕ) (ns : List (List ℕ)) → NameBytes n → All Name ns → pieces (n ++ more ns) ≡ n ∷ ns
+pieces_of : (n : List ℕ) (ns : List (List ℕ)) → NameBytes n → AllByRecursion Name ns → pieces (n ++ more ns) ≡ n ∷ ns
 pieces_of [] [] h a = refl
 pieces_of [] (m ∷ ns) h a = ap (λ l. [] ∷ l) (pieces_of m ns a.0.bytes a.1)
 pieces_of (b ∷ n) ns h a = rw (comma_not b h.0) (ap (onto b) (pieces_of n ns h.1 a))

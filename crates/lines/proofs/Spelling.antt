@@ -2,7 +2,7 @@
 use Rattle.std.proofs.Common.{◌≡◌, ℕ, ◌^◌, ◌<◌, ◌≤◌, cond, eqb, List, [], ◌∷◌, ◌++◌, length, get_or, drop, decimal, sym, refl, ap, ◌∙◌, subst, arith, length-append, rules, eq-eqb, ne_eqb}
 use Rattle.std.specs.Str.Parse.{AllDigits, digits_value}
 use Rattle.std.specs.Int.{IsInRange}
-use Rattle.std.specs.List.{AllByRecursion as All}
+use Rattle.std.specs.List.{AllByRecursion}
 use Rattle.std.proofs.lemmas.Fmt.{digits_decimal, digits_value-decimal}
 use Rattle.std.proofs.ByRecursion.{All-append, All-from_get_or}
 use Rattle.std.proofs.lemmas.List.{drop_at}
@@ -27,7 +27,7 @@ lacks_decimal c n small out =
 
 -- the parts of a body, at the mark between them
 
-pub charged_cut : (ns : List (List ℕ)) (n : ℕ) (bytes front back : List ℕ) → All Name ns → Cut 58 bytes front back → bytes ≡ charged ns n → Same (joined ns) front (decimal n) back
+pub charged_cut : (ns : List (List ℕ)) (n : ℕ) (bytes front back : List ℕ) → AllByRecursion Name ns → Cut 58 bytes front back → bytes ≡ charged ns n → Same (joined ns) front (decimal n) back
 charged_cut ns n bytes front back names cut e =
     one_place 58 (joined ns) front (decimal n) back (sym e ∙ cut.whole) (lacks_joined 58 refl (λ h. omega arith) ns names) cut.first
 
@@ -91,7 +91,7 @@ lacks_key kind.Same = search rules
 lacks_key kind.Join = search rules
 lacks_key kind.Bar = search rules
 
-lacks_names : (ns : List (List ℕ)) → All Name ns → Lacks 10 (joined ns)
+lacks_names : (ns : List (List ℕ)) → AllByRecursion Name ns → Lacks 10 (joined ns)
 lacks_names ns a = lacks_joined 10 refl (λ e. omega arith) ns a
 
 lacks_number : (n : ℕ) → n ≤ 1000000 → Lacks 10 (decimal n)
@@ -100,7 +100,7 @@ lacks_number n h = lacks_decimal 10 n h (λ p. omega (arith, p.0))
 lacks_between : (c : ℕ) (x y : List ℕ) → (c ≡ 10 → ⊥) → Lacks 10 x → Lacks 10 y → Lacks 10 (x ++ (c ∷ y))
 lacks_between c x y apart lx ly = All-append _ x _ lx (apart, ly)
 
-lacks_charged : (ns : List (List ℕ)) (n : ℕ) → All Name ns → n ≤ 1000000 → Lacks 10 (charged ns n)
+lacks_charged : (ns : List (List ℕ)) (n : ℕ) → AllByRecursion Name ns → n ≤ 1000000 → Lacks 10 (charged ns n)
 lacks_charged ns n a h = lacks_between 58 (joined ns) (decimal n) (λ e. omega arith) (lacks_names ns a) (lacks_number n h)
 
 lacks_body : (t : Told) → Good t → Lacks 10 (body t)
@@ -152,7 +152,7 @@ told kind.Same bs = same (pieces (before 58 bs)) (digits_value 10 (after 58 bs))
 told kind.Join bs = join (digits_value 10 (before 44 bs)) (digits_value 10 (after 44 bs))
 told kind.Bar bs = bar (before 44 bs) (after 44 bs)
 
-names_again : (ns : List (List ℕ)) → 1 ≤ length ns → All Name ns → pieces (joined ns) ≡ ns
+names_again : (ns : List (List ℕ)) → 1 ≤ length ns → AllByRecursion Name ns → pieces (joined ns) ≡ ns
 names_again ns some a = listed_pieces ns (joined ns) (record { some = some; names = a; is = refl })
 
 number_again : (n : ℕ) → n ≤ 1000000 → digits_value 10 (decimal n) ≡ n
@@ -162,7 +162,7 @@ charged_names_again : (least most : ℕ) (ns : List (List ℕ)) (n : ℕ) → 1 
 charged_names_again least most ns n some g =
     ap pieces (before_mark 58 (joined ns) (decimal n) (lacks_joined 58 refl (λ k. omega arith) ns g.names)) ∙ names_again ns (omega (arith, g.least_so)) g.names
 
-charged_number_again : (ns : List (List ℕ)) (n : ℕ) → All Name ns → n ≤ 1000000 → digits_value 10 (after 58 (charged ns n)) ≡ n
+charged_number_again : (ns : List (List ℕ)) (n : ℕ) → AllByRecursion Name ns → n ≤ 1000000 → digits_value 10 (after 58 (charged ns n)) ≡ n
 charged_number_again ns n a h =
     ap (digits_value 10) (after_mark 58 (joined ns) (decimal n) (lacks_joined 58 refl (λ k. omega arith) ns a)) ∙ number_again n h
 
@@ -193,7 +193,7 @@ one_value t u g h e =
 
 -- lines end at their first end byte, so a text has one reading
 
-pub one_reading : (ts us : List Told) → All Good ts → All Good us → spell_all ts ≡ spell_all us → ts ≡ us
+pub one_reading : (ts us : List Told) → AllByRecursion Good ts → AllByRecursion Good us → spell_all ts ≡ spell_all us → ts ≡ us
 one_reading [] [] gt gu e = refl
 one_reading [] (u ∷ us) gt gu e = absurd (omega (arith, ap length e, length-append (spell u) (10 ∷ spell_all us)))
 one_reading (t ∷ ts) [] gt gu e = absurd (omega (arith, ap length e, length-append (spell t) (10 ∷ spell_all ts)))

@@ -1,14 +1,14 @@
 -- A name, a list of names, and the spelling of such a list.
 use Rattle.std.specs.Prelude.{◌≡◌, ℕ, ◌<◌, ◌≤◌, Bool, true, cond, ◌||◌, List, [], ◌∷◌, ◌++◌, length, get_or, ◌==◌, ◌≢◌, slice_index_or}
 use Rattle.std.specs.Char.{is_ascii_digit, is_ascii_alphabetic}
-use Rattle.std.specs.List.{AllByRecursion as All}
+use Rattle.std.specs.List.{AllByRecursion}
 
 -- a letter, a digit, `-` or `_`
 abbrev pub name_byte : ℕ → Bool
 name_byte b = is_ascii_alphabetic b || (is_ascii_digit b || (b == 45 || b == 95))
 
 abbrev pub NameBytes : List ℕ → Type 0
-NameBytes bs = All (λ b. name_byte b ≡ true) bs
+NameBytes bs = AllByRecursion (λ b. name_byte b ≡ true) bs
 
 -- no name goes on here
 abbrev pub Stops : List ℕ → Type 0
@@ -34,7 +34,7 @@ joined (n ∷ ns) = n ++ more ns
 -- the bytes spell the names, of which there is at least one
 pub record Listed (ns : List (List ℕ)) (bytes : List ℕ) : Type 0 where
   pub some : 0 < length ns
-  pub names : All Name ns
+  pub names : AllByRecursion Name ns
   pub is : bytes ≡ joined ns
 
 -- one byte more at the front of the first piece

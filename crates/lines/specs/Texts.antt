@@ -1,6 +1,6 @@
 -- A text is lines, each with its end byte.
 use Rattle.std.specs.Prelude.{◌≡◌, ℕ, List, [], ◌∷◌, ◌++◌}
-use Rattle.std.specs.List.{AllByRecursion as All}
+use Rattle.std.specs.List.{AllByRecursion}
 use Rattle.book.specs.declared.refusal.Refusal.{Refusal}
 use Rattle.book.specs.declared.refusal.Layer.TheVariants.{Line}
 use Rattle.book.specs.declared.refusal.LineCause.TheVariants.{NoForm}
@@ -30,4 +30,4 @@ SpellingIsOneToOne = (t u : Told) → Good t → Good u → spell t ≡ spell u 
 
 -- a text is cut into lines in one way
 abbrev pub TextHasOneReading : Type 0
-TextHasOneReading = (ts us : List Told) → All Good ts → All Good us → spell_all ts ≡ spell_all us → ts ≡ us
+TextHasOneReading = (ts us : List Told) → AllByRecursion Good ts → AllByRecursion Good us → spell_all ts ≡ spell_all us → ts ≡ us

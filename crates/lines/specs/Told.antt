@@ -1,6 +1,6 @@
 -- What a line says, and its one spelling.
 use Rattle.std.specs.Prelude.{◌≡◌, ℕ, ◌≤◌, List, ◌∷◌, ◌++◌, length, codes, decimal}
-use Rattle.std.specs.List.{AllByRecursion as All}
+use Rattle.std.specs.List.{AllByRecursion}
 use Rattle.lines.specs.Names.{Name, joined, pieces}
 use Rattle.lines.specs.declared.kind.Kind.{Kind}
 use Rattle.lines.specs.declared.kind.Kind.TheVariants as kind
@@ -61,13 +61,13 @@ spell t = key (kind_of t) ++ body t
 
 -- from least to most names
 pub record Named (least most : ℕ) (ns : List (List ℕ)) : Type 0 where
-  pub names : All Name ns
+  pub names : AllByRecursion Name ns
   pub least_so : least ≤ length ns
   pub most_so : length ns ≤ most
 
 -- at least one name
 pub record SomeNamed (ns : List (List ℕ)) : Type 0 where
-  pub names : All Name ns
+  pub names : AllByRecursion Name ns
   pub some : 1 ≤ length ns
 
 -- the values that a line can have

@@ -1,6 +1,6 @@
 -- Totals and sheet numbers of a book with bars, over the permitted assignments.
 use Rattle.std.proofs.Common.{◌≡◌, ℕ, ◌^◌, ◌<◌, Bool, true, false, cond, not, ◌&&◌, List, [], ◌∷◌, map, is_some, Some, None, filter, Option, sym, refl, ap, ◌∙◌, subst, ap₂, inl, inr, arith}
-use Rattle.std.specs.List.{AllByRecursion as All}
+use Rattle.std.specs.List.{AllByRecursion}
 use Rattle.std.proofs.ByRecursion.{All-from_get_or, all_kept_by, All-weaker}
 use Rattle.std.proofs.lemmas.Bool.{cases_Bool, and_parts}
 use Rattle.weighing.specs.declared.charge.Charge.{Charge}
@@ -30,19 +30,19 @@ pub sound_shape : (m : Meaning) → Ranged m → Sound (shape_of m)
 sound_shape m r = record { some_holder = r.some_holder; below = r.below; rising = r.rising }
 
 -- every listed assignment is one
-pub every_is : (m : Meaning) → Ranged m → All (Assignment m.holders m.locks) (every m)
+pub every_is : (m : Meaning) → Ranged m → AllByRecursion (Assignment m.holders m.locks) (every m)
 every_is m r =
     All-from_get_or (Assignment m.holders m.locks) (every m) []
     (λ i h. let k : i < m.holders ^ m.locks = subst (λ n. i < n) (listed_long m.holders m.locks) h in
     subst (Assignment m.holders m.locks) (sym (listed_at m.holders m.locks i k)) (is_assignment m.holders m.locks i r.some_holder k))
 
 -- two functions that agree on what a list has give one list
-pub map_same : {X Y : Type 0} (Q : X → Type 0) (f g : X → Y) → ((x : X) → Q x → f x ≡ g x) → (xs : List X) → All Q xs → map f xs ≡ map g xs
+pub map_same : {X Y : Type 0} (Q : X → Type 0) (f g : X → Y) → ((x : X) → Q x → f x ≡ g x) → (xs : List X) → AllByRecursion Q xs → map f xs ≡ map g xs
 map_same Q f g same [] q = refl
 map_same Q f g same (x ∷ xs) q = ap₂ ◌∷◌ (same x q.0) (map_same Q f g same xs q.1)
 
 -- a filter that nothing passes gives the empty list
-none_kept : {X : Type 0} (test : X → Bool) (xs : List X) → All (λ x. test x ≡ false) xs → filter test xs ≡ []
+none_kept : {X : Type 0} (test : X → Bool) (xs : List X) → AllByRecursion (λ x. test x ≡ false) xs → filter test xs ≡ []
 none_kept test [] q = refl
 none_kept test (x ∷ xs) q = ap (λ b. cond b (x ∷ filter test xs) (filter test xs)) q.0 ∙ none_kept test xs q.1
 
@@ -76,7 +76,7 @@ module _ {W P : Type 0} (a : Algebra W P) (laws : Lawful a) (m : Meaning) (r : R
       (none_exactly a.ops laws.semiring (net_of a m) (permits m) (row_tests a laws m) laws.no_cancel one_table x).1
 
   -- the either of what some assignments weigh in the barred book
-  either_barred : (some : List (List ℕ)) → All (Assignment m.holders m.locks) some →
+  either_barred : (some : List (List ℕ)) → AllByRecursion (Assignment m.holders m.locks) some →
       either_over a.ops (map (weight a (barred bars m)) some) ≡ either_of a m bars some
   either_barred some are =
       ap (either_over a.ops) (map_same (Assignment m.holders m.locks) (weight a (barred bars m)) (λ x. cond (allowed m bars x) (weight a m x) a.ops.none) weigh_allowed some are)
