@@ -20,7 +20,7 @@ fn perform<B: Book + Drop, W: Weighing>(
     ensures order { order_now case.new ≡ order_left (shape_now case.old) (order_now case.old) call.entry }
     ensures bars { bars_now case.new ≡ bars_left (shape_now case.old) (bars_now case.old) call.entry }
     ensures same { (book_in case.new ≡ book_in case.old) × (shape_now case.new ≡ shape_now case.old) }
-    ensures leaves { Leaves W.Weighing.algebra (meaning_now case.old B.Book.meaning) (order_now case.old) call.entry (record { cells = cells.entry.now; sheet = sheet.old; holders = holders.old }) (record { cells = cells.exit.now; sheet = sheet.new; holders = holders.new }) }
+    ensures leaves { Leaves W.Weighing.algebra (meaning_now case.old B.Book.meaning) (order_now case.old) call.entry (record { cells = cells.old; sheet = sheet.old; holders = holders.old }) (record { cells = cells.new; sheet = sheet.new; holders = holders.new }) }
 {
     match call {
         Call::Order(joins) => {
@@ -55,8 +55,8 @@ fn ask<B: Book + Drop, W: Weighing>(
     sheet: &mut [W::Plain],
     holders: &mut [usize],
 ) -> Result<Answer<W>, Refusal>
-    ensures leaves { Leaves W.Weighing.algebra (meaning_now case.now B.Book.meaning) (order_now case.now) (asked question) (record { cells = cells.entry.now; sheet = sheet.old; holders = holders.old }) (record { cells = cells.exit.now; sheet = sheet.new; holders = holders.new }) }
-    ensures law { Copied case.now B.Book.meaning → Law W.Weighing.algebra (B.Book.meaning (book_in case.now)) (order_now case.now) (bars_now case.now) question (record { cells = cells.entry.now; sheet = sheet.old; holders = holders.old }) (record { cells = cells.exit.now; sheet = sheet.new; holders = holders.new }) result }
+    ensures leaves { Leaves W.Weighing.algebra (meaning_now case.now B.Book.meaning) (order_now case.now) (asked question) (record { cells = cells.old; sheet = sheet.old; holders = holders.old }) (record { cells = cells.new; sheet = sheet.new; holders = holders.new }) }
+    ensures law { Copied case.now B.Book.meaning → Law W.Weighing.algebra (B.Book.meaning (book_in case.now)) (order_now case.now) (bars_now case.now) question (record { cells = cells.old; sheet = sheet.old; holders = holders.old }) (record { cells = cells.new; sheet = sheet.new; holders = holders.new }) result }
 {
     match question {
         Question::Total => match case.total::<W>(cells) {
@@ -89,7 +89,7 @@ pub fn ask_after<B: Book + Drop, W: Weighing>(
     sheet: &mut [W::Plain],
     holders: &mut [usize],
 ) -> Result<Answer<W>, Refusal>
-    ensures { RanAsked W.Weighing.algebra (B.Book.meaning book) calls.now question (record { cells = cells.entry.now; sheet = sheet.old; holders = holders.old }) (record { cells = cells.exit.now; sheet = sheet.new; holders = holders.new }) result }
+    ensures { RanAsked W.Weighing.algebra (B.Book.meaning book) calls.now question (record { cells = cells.old; sheet = sheet.old; holders = holders.old }) (record { cells = cells.new; sheet = sheet.new; holders = holders.new }) result }
 {
     let mut case = Case::new(book);
     for call in calls {

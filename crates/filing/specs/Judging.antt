@@ -57,7 +57,7 @@ RowFalls s ns = (length ns ≢ s.width) ⊎ ((s.before ≡ Some kind.Row) × (ro
 
 -- a pair that is not above another, the lock counting before the holder
 abbrev pub NotAbove : ℕ → ℕ → ℕ → ℕ → Type 0
-NotAbove lock holder last-lock last-holder = (lock < last-lock) ⊎ ((lock ≡ last-lock) × (holder ≤ last-holder))
+NotAbove lock holder last_lock last_holder = (lock < last_lock) ⊎ ((lock ≡ last_lock) × (holder ≤ last_holder))
 
 -- a bar that is not above the bar before it
 abbrev pub BarFalls : Standing → List ℕ → List ℕ → Type 0

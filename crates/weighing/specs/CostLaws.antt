@@ -105,8 +105,8 @@ weighed_some x e = let z : ◌≡◌ {A = ℕ} 0 1 = cc in omega arith
 
 -- a number of at most the largest amount is an amount's plain value; any other number is read as none
 stray_by : (n : ℕ) (b : Bool) → nat_le n 1000000000 ≡ b → ((w : Cost) → stored w ≢ n) → cond b (Of (amount n)) None ≡ None
-stray_by n true e no-weight = absurd (no-weight (Of (amount n)) (omega (arith, leb-true n 1000000000 e)))
-stray_by n false e no-weight = refl
+stray_by n true e no_weight = absurd (no_weight (Of (amount n)) (omega (arith, leb-true n 1000000000 e)))
+stray_by n false e no_weight = refl
 
 pub cost_laws : Lawful costs
 cost_laws = record {

@@ -70,8 +70,8 @@ back_by w true e = grade_eq _ _ (omega arith)
 back_by w false e = absurd (omega (arith, leb-false w.value 1000001 e))
 
 stray_by : (n : ℕ) (b : Bool) → nat_le n 1000001 ≡ b → ((w : Grade) → w.value ≢ n) → cond b (grade n) (grade 0) ≡ grade 0
-stray_by n true e no-weight = absurd (no-weight (grade n) (omega (arith, leb-true n 1000001 e)))
-stray_by n false e no-weight = refl
+stray_by n true e no_weight = absurd (no_weight (grade n) (omega (arith, leb-true n 1000001 e)))
+stray_by n false e no_weight = refl
 
 pub grade_laws : Lawful grades
 grade_laws = record {

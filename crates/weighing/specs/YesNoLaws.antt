@@ -46,8 +46,8 @@ back Yes = refl
 
 -- each truth value is a weight's
 stray : (b : Bool) → ((w : YesNo) → is_yes w ≢ b) → cond b Yes No ≡ No
-stray false no-weight = refl
-stray true no-weight = absurd (no-weight Yes refl)
+stray false no_weight = refl
+stray true no_weight = absurd (no_weight Yes refl)
 
 pub yes_no_laws : Lawful yes_nos
 yes_no_laws = record {
