@@ -1,3 +1,2 @@
-#![tactic(auto)]
-
 // Cases from filed texts: the case that a text spells.
+#![tactic(auto)]

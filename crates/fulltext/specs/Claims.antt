@@ -1,4 +1,4 @@
--- The statements. Each stands on the contract of a function of this crate, and so is proved.
+-- The statements. They are not proved yet: no function's contract names them.
 use Rattle.std.specs.Prelude.{◌≡◌, ℕ, ◌+◌, ◌<◌, ◌≤◌, Bool, true, List, [], ◌∷◌, ◌++◌, length, None}
 use Rattle.std.specs.List.{AllByRecursion}
 use Rattle.book.specs.Books.{Meaning, Ranged}

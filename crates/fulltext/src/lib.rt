@@ -1,3 +1,2 @@
+// The full text of a case, as lines; what it means when it is read. Definitions and statements.
 #![tactic(auto)]
-
-// The full text of a case, as lines; what it means when it is read. Definitions and theorems.
