@@ -1,8 +1,8 @@
 -- Lists that are split at the first of a mark, or where a run of bytes ends.
-use Rattle.std.proofs.Common.{◌≡◌, ℕ, ◌+◌, ◌-◌, ◌<◌, List, [], ◌∷◌, ◌++◌, length, get_or, take, drop, sym, refl, ap, ◌∙◌, subst, arith, length-append, take-append-drop}
-use native.Mathlib.Nat.{sub-zero}
-use Rattle.std.specs.List.{AllByRecursion}
-use Rattle.std.proofs.lemmas.List.{take_rest, drop_more}
+use Rattle.std.proofs.Common.{◌≡◌, ℕ, ◌+◌, ◌-◌, ◌<◌, List, [], ◌∷◌, ◌++◌, length, get_or, take, drop, Option, MatchOption, sym, refl, ap, ◌∙◌, subst, arith, length-take-le, take-append-drop}
+use Rattle.std.specs.List.{AllByRecursion, AllWithin, HoldsAt}
+use Rattle.std.proofs.ByRecursion.{All-from_get_or}
+use Rattle.std.proofs.lemmas.List.{take_rest, drop_more, get_or-take}
 use Rattle.lines.specs.Cuts.{Lacks, Cut}
 
 -- a list whose first element, if any, does not have P
@@ -33,10 +33,18 @@ one_place c x y s t e lx ly =
     let r = one_cut (λ b. b ≡ c → ⊥) x y (c ∷ s) (c ∷ t) e lx ly (λ f. f refl) (λ f. f refl) in
     record { front = r.front; back = ap (drop 1) r.back }
 
-pub cut_here : (bs : List ℕ) (c i : ℕ) → i < length bs → get_or bs i 0 ≡ c → Lacks c (take i bs) → Cut c bs (take (i - 0) bs) (take (length bs - (i + 1)) (drop (i + 1) bs))
-cut_here bs c i l e h = simp (sub-zero, take_rest) (record {
-  whole = sym (take-append-drop i bs) ∙ ap (λ t. take i bs ++ t) (drop_more bs i 0 l ∙ ap (λ b. b ∷ drop (i + 1) bs) e);
-  first = h;
+-- what `position` says of the first c
+abbrev pub IsPlace : ℕ → List ℕ → Option ℕ → Type 0
+IsPlace c bs r =
+    MatchOption r (AllWithin (λ b. b ≡ c → ⊥) bs 0 (length bs)) (λ i. (i < length bs) × HoldsAt (λ b. b ≡ c) bs i × AllWithin (λ b. b ≡ c → ⊥) bs 0 i)
+
+pub lacks_all : (c : ℕ) (bs : List ℕ) → AllWithin (λ b. b ≡ c → ⊥) bs 0 (length bs) → Lacks c bs
+lacks_all c bs h = All-from_get_or (λ b. b ≡ c → ⊥) bs 0 (λ i l. h i 0 (omega arith) l)
+
+pub cut_here : (c : ℕ) (bs : List ℕ) (i : ℕ) → (i < length bs) × HoldsAt (λ b. b ≡ c) bs i × AllWithin (λ b. b ≡ c → ⊥) bs 0 i → Cut c bs (take i bs) (take (length bs - (i + 1)) (drop (i + 1) bs))
+cut_here c bs i h = simp take_rest (record {
+  whole = sym (take-append-drop i bs) ∙ ap (λ t. take i bs ++ t) (drop_more bs i 0 h.0 ∙ ap (λ b. b ∷ drop (i + 1) bs) (h.1 0));
+  first = All-from_get_or (λ b. b ≡ c → ⊥) (take i bs) 0 (λ k l. let m : k < i = omega (arith, length-take-le i bs (omega arith)) in rw (get_or-take i bs k 0 m) (h.2 k 0 (omega arith) m));
 })
 
 lacks_in : (x y : List ℕ) (c : ℕ) → Lacks c (x ++ (c ∷ y)) → ⊥
@@ -46,11 +54,3 @@ lacks_in (a ∷ x) y c h = lacks_in x y c h.1
 -- what lacks c is not split at c
 pub lacks_cut : (bs x y : List ℕ) (c : ℕ) → Lacks c bs → bs ≡ x ++ (c ∷ y) → ⊥
 lacks_cut bs x y c h e = lacks_in x y c (subst (Lacks c) e h)
-
--- and what cannot be split at c lacks it
-pub lacks_from : (c : ℕ) (bs : List ℕ) → ((x y : List ℕ) → bs ≡ x ++ (c ∷ y) → ⊥) → Lacks c bs
-lacks_from c [] h = tt
-lacks_from c (b ∷ bs) h = ((λ e. h [] bs (ap (λ k. k ∷ bs) e)), lacks_from c bs (λ x y e. h (b ∷ x) y (ap (λ l. b ∷ l) e)))
-
-pub cut_shorter : (c : ℕ) (bytes front back : List ℕ) → Cut c bytes front back → length back < length bytes
-cut_shorter c bytes front back cut = omega (arith, ap length cut.whole, length-append front (c ∷ back))

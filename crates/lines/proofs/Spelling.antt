@@ -1,5 +1,8 @@
 -- Spelling is one-to-one: a key tells the kind, a mark is where it is first, and numbers and names have one spelling.
-use Rattle.std.proofs.Common.{◌≡◌, ℕ, ◌^◌, ◌<◌, ◌≤◌, cond, eqb, List, [], ◌∷◌, ◌++◌, length, get_or, drop, decimal, sym, refl, ap, ◌∙◌, subst, arith, length-append, rules, eq-eqb, ne_eqb}
+use Rattle.std.proofs.Common.{◌≡◌, ℕ, ◌^◌, ◌<◌, ◌≤◌, Bool, true, false, cond, eqb, Bor, Option, MatchOption, List, [], ◌∷◌, ◌++◌, length, get_or, drop, decimal, sym, refl, ap, ◌∙◌, subst, arith, length-append, rules, eq-eqb, ne_eqb}
+use borrow.Author.Tests.{clash}
+use Rattle.std.specs.Bool.{then_some}
+use Rattle.weighing.specs.Tests.{Tells}
 use Rattle.std.specs.Str.Parse.{AllDigits, digits_value}
 use Rattle.std.specs.Int.{IsInRange}
 use Rattle.std.specs.List.{AllByRecursion}
@@ -10,12 +13,12 @@ use Rattle.std.proofs.lemmas.Str.Parse.{IsNumeralModel, numerals_by_value, tells
 use Rattle.lines.specs.Cuts.{Lacks, Cut}
 use Rattle.lines.specs.Names.{Name, joined, pieces}
 use Rattle.lines.specs.Told.{Told, locks, holders, table, row, differ, same, join, bar, kind_of, key, charged, body, spell, Named, Good, Reads}
-use Rattle.lines.specs.Bodies.{NoBody}
+use Rattle.lines.specs.Bodies.{NoBody, NoPair}
 use Rattle.lines.specs.Texts.{spell_all, NoLine}
 use Rattle.lines.specs.declared.kind.Kind.{Kind}
 use Rattle.lines.specs.declared.kind.Kind.TheVariants as kind
 use Rattle.lines.proofs.Cutting.{Same, one_place}
-use Rattle.lines.proofs.Naming.{lacks_joined, lacks_name, listed_pieces}
+use Rattle.lines.proofs.Naming.{lacks_joined, lacks_name, pieces_joined}
 
 own : IsNumeralModel (AllDigits 10) (digits_value 10)
 own = numerals_by_value _ tells_digits
@@ -38,6 +41,13 @@ nodes_cut m n bytes front back small cut e =
 pub pair_cut : (l h bytes front back : List ℕ) → Name l → Cut 44 bytes front back → bytes ≡ l ++ (44 ∷ h) → Same l front h back
 pair_cut l h bytes front back name cut e =
     one_place 44 l front h back (sym e ∙ cut.whole) (lacks_name 44 refl l name.bytes) cut.first
+
+-- two names are the pair that the bytes spell, or they spell none
+pub pair_of : (l h : Bor (List ℕ)) (bytes : List ℕ) (b : Bool) → Cut 44 bytes l.now h.now → Tells (Name l.now × Name h.now) b → MatchOption {T = Bor (List ℕ) × Bor (List ℕ)} (then_some b (l, h)) (NoPair bytes) (λ p. Name p.0.now × Name p.1.now × (bytes ≡ p.0.now ++ (44 ∷ p.1.now)))
+pair_of l h bytes true cut t = let names = t.sound refl in (names.0, names.1, cut.whole)
+pair_of l h bytes false cut t = λ x y g e.
+    let r = pair_cut x y bytes l.now h.now g.0 cut e in
+    clash (t.full (subst Name r.front g.0, subst Name r.back g.1))
 
 -- a key tells the kind
 
@@ -153,7 +163,7 @@ told kind.Join bs = join (digits_value 10 (before 44 bs)) (digits_value 10 (afte
 told kind.Bar bs = bar (before 44 bs) (after 44 bs)
 
 names_again : (ns : List (List ℕ)) → 1 ≤ length ns → AllByRecursion Name ns → pieces (joined ns) ≡ ns
-names_again ns some a = listed_pieces ns (joined ns) (record { some = some; names = a; is = refl })
+names_again ns some a = pieces_joined ns (record { names = a; some = some })
 
 number_again : (n : ℕ) → n ≤ 1000000 → digits_value 10 (decimal n) ≡ n
 number_again n h = digits_value-decimal own n (omega arith)

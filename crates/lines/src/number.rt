@@ -19,7 +19,7 @@ pub fn read_number(bytes: &[u8]) -> Option<u32>
 
 // The number that digits spell of which the first is not 0.
 fn read_digits(bytes: &[u8]) -> Option<u32>
-    requires { (0 < length bytes.now) × ((slice_index bytes.now 0 ≢ 48)) }
+    requires { (0 < length bytes.now) × (slice_index bytes.now 0 ≢ 48) }
     ensures { MatchOption result ((n : ℕ) → Spelled n bytes.now → ⊥) (λ n. Spelled n bytes.now) }
 {
     let mut n: u32 = 0;

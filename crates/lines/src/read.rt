@@ -40,10 +40,7 @@ fn read_pair(bytes: &[u8]) -> Option<(&[u8], &[u8])>
     ensures { MatchOption result (NoPair bytes.now) (λ p. Name p.0.now × Name p.1.now × (bytes.now ≡ p.0.now ++ (44 ∷ p.1.now))) }
 {
     let (lock, holder) = cut_at(bytes, Mark::Comma)?;
-    if !is_name(lock) || !is_name(holder) {
-        return None;
-    }
-    Some((lock, holder))
+    (is_name(lock) && is_name(holder)).then_some((lock, holder))
 }
 
 // What follows a key of this kind, as a line at this place.
@@ -51,54 +48,42 @@ fn read_body(kind: Kind, bytes: &[u8], place: usize) -> Option<Line<'_>>
     ensures { MatchOption result (NoBody kind bytes.now) (λ l. HasBody kind bytes.now place l) }
 {
     match kind {
-        Kind::Locks => Some(Line::Locks {
+        Kind::Locks => Names::read_some(bytes).map(|names| Line::Locks { place, names }),
+        Kind::Holders => Names::read_some(bytes).map(|names| Line::Holders { place, names }),
+        Kind::Table => Names::read_few(bytes, 1, 4).map(|locks| Line::Table { place, locks }),
+        Kind::Row => read_charged(bytes, 1, 4).map(|(holders, charge)| Line::Row {
             place,
-            names: Names::read_some(bytes)?,
+            holders,
+            charge,
         }),
-        Kind::Holders => Some(Line::Holders {
+        Kind::Differ => read_charged(bytes, 2, 2).map(|(locks, charge)| Line::Differ {
             place,
-            names: Names::read_some(bytes)?,
+            locks,
+            charge,
         }),
-        Kind::Table => Some(Line::Table {
+        Kind::Same => read_charged(bytes, 2, 2).map(|(locks, charge)| Line::Same {
             place,
-            locks: Names::read_few(bytes, 1, 4)?,
+            locks,
+            charge,
         }),
-        Kind::Row => {
-            let (holders, charge) = read_charged(bytes, 1, 4)?;
-            Some(Line::Row {
-                place,
-                holders,
-                charge,
-            })
-        }
-        Kind::Differ => {
-            let (locks, charge) = read_charged(bytes, 2, 2)?;
-            Some(Line::Differ {
-                place,
-                locks,
-                charge,
-            })
-        }
-        Kind::Same => {
-            let (locks, charge) = read_charged(bytes, 2, 2)?;
-            Some(Line::Same {
-                place,
-                locks,
-                charge,
-            })
-        }
-        Kind::Join => {
-            let (left, right) = read_nodes(bytes)?;
-            Some(Line::Join { place, left, right })
-        }
-        Kind::Bar => {
-            let (lock, holder) = read_pair(bytes)?;
-            Some(Line::Bar {
-                place,
-                lock,
-                holder,
-            })
-        }
+        Kind::Join => read_nodes(bytes).map(|(left, right)| Line::Join { place, left, right }),
+        Kind::Bar => read_pair(bytes).map(|(lock, holder)| Line::Bar {
+            place,
+            lock,
+            holder,
+        }),
+    }
+}
+
+// The refusal of a line that has none of the eight forms, or lacks its end byte.
+fn formless(place: usize) -> Refusal
+    ensures { result ≡ no_form place }
+{
+    Refusal {
+        layer: Layer::Line {
+            place,
+            cause: LineCause::NoForm,
+        },
     }
 }
 
@@ -106,33 +91,15 @@ fn read_body(kind: Kind, bytes: &[u8], place: usize) -> Option<Line<'_>>
 pub fn read_line(bytes: &[u8], place: usize) -> Result<Line<'_>, Refusal>
     ensures { MatchResult result (λ l. Reads (meant l) bytes.now × (placed l ≡ place)) (λ e. ((t : Told) → Reads t bytes.now → ⊥) × (e ≡ no_form place)) }
 {
-    let refusal = Refusal {
-        layer: Layer::Line {
-            place,
-            cause: LineCause::NoForm,
-        },
-    };
-    let Some((kind, rest)) = key_of(bytes) else {
-        return Err(refusal);
-    };
-    match read_body(kind, rest, place) {
-        Some(line) => Ok(line),
-        None => Err(refusal),
-    }
+    let (kind, rest) = key_of(bytes).ok_or(formless(place))?;
+    read_body(kind, rest, place).ok_or(formless(place))
 }
 
 // The first line of a text, and what follows its end byte; a refusal where no line begins the text.
 pub fn take_line(text: &[u8], place: usize) -> Result<(Line<'_>, &[u8]), Refusal>
     ensures { MatchResult result (λ p. Begins (meant p.0) text.now p.1.now × (placed p.0 ≡ place)) (λ e. NoLine text.now × (e ≡ no_form place)) }
 {
-    let Some((bytes, after)) = next_line(text) else {
-        return Err(Refusal {
-            layer: Layer::Line {
-                place,
-                cause: LineCause::NoForm,
-            },
-        });
-    };
+    let (bytes, after) = next_line(text).ok_or(formless(place))?;
     let line = read_line(bytes, place)?;
     Ok((line, after))
 }

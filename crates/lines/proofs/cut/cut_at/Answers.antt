@@ -1,16 +1,15 @@
-use Rattle.std.proofs.Common.{◌≡◌, refl, subst, arith, take_all}
-use borrow.Author.Tests.{clash}
-use Rattle.std.proofs.ByRecursion.{All-more}
-use Rattle.lines.specs.Cuts.{Lacks, mark_byte}
-use Rattle.lines.proofs.Cutting.{cut_here, lacks_cut}
+use Rattle.std.proofs.Common.{◌≡◌, rules, tests}
+use Rattle.std.proofs.lemmas.Iterator.{IsFirst-from_position, YieldsList-from_slice}
+use Rattle.lines.specs.Cuts.{mark_byte}
+use Rattle.lines.proofs.Cutting.{IsPlace, cut_here, lacks_all, lacks_cut}
 use Rattle.lines.proofs.cut.cut_at.Goals as goal
 
-pub returns-then-is_mark : goal.returns-then-is_mark
-returns-then-is_mark c = cut_here _ _ _ (omega arith) (c.if-is_mark.ensures.sound refl) c.loop-i.invariant
-
-pub loop-i-preserved : goal.loop-i-preserved
-loop-i-preserved c = All-more (λ b. b ≡ mark_byte c.args.mark → ⊥) c.args.bytes.now c.loop-i.i 0 (omega arith) c.loop-i.invariant (λ e. clash (c.if-is_mark.ensures.full e))
+pub returns-in_err-i : goal.returns-in_err-i
+returns-in_err-i c =
+    let place : IsPlace (mark_byte c.args.mark) c.args.bytes.now c.position.result = IsFirst-from_position _ _ c.position.result (λ b. b ≡ mark_byte c.args.mark) (λ b. b ≡ mark_byte c.args.mark → ⊥) c.position.ensures.ran (YieldsList-from_slice c.args.bytes.now c.iter.ensures.rest) (λ x q k. search (rules, tests)) (λ x q k. search (rules, tests)) in
+    rw c.from_residual.ensures (λ x y e. lacks_cut _ x y _ (lacks_all _ _ (rw c.in_err-i.was at place)) e)
 
 pub returns : goal.returns
-returns c x y e =
-    lacks_cut c.args.bytes.now x y _ (subst (Lacks (mark_byte c.args.mark)) (take_all c.loop-i.i c.args.bytes.now (omega arith)) c.loop-i.invariant) e
+returns c =
+    let place : IsPlace (mark_byte c.args.mark) c.args.bytes.now c.position.result = IsFirst-from_position _ _ c.position.result (λ b. b ≡ mark_byte c.args.mark) (λ b. b ≡ mark_byte c.args.mark → ⊥) c.position.ensures.ran (YieldsList-from_slice c.args.bytes.now c.iter.ensures.rest) (λ x q k. search (rules, tests)) (λ x q k. search (rules, tests)) in
+    cut_here _ _ _ (rw c.in_ok-i.was at place)
