@@ -1,12 +1,24 @@
-use Rattle.std.proofs.Common.{arith, ltb-false, ltb-true}
-use Rattle.lines.proofs.Numerals.{not_empty, zero_is, no_leading}
+use Rattle.std.proofs.Common.{◌≡◌, ◌≤◌, length, get_or, sym, ◌∙◌, arith, rules, tests}
+use Rattle.lines.proofs.Numerals.{front, not_text, read_of}
 use Rattle.lines.proofs.number.read_number.Goals as goal
 
-pub returns-in-empty : goal.returns-in-empty
-returns-in-empty c n s = not_empty _ n (omega (arith, ltb-true, ltb-false)) s
-
 pub returns-in-48 : goal.returns-in-48
-returns-in-48 c = zero_is _ (omega (arith, ltb-true, ltb-false)) (omega (arith, ltb-true, ltb-false))
+returns-in-48 c n s = omega (arith, front _ n s)
 
 pub returns-in-48-2 : goal.returns-in-48-2
-returns-in-48-2 c n s = no_leading _ n (omega (arith, ltb-true, ltb-false)) (omega (arith, ltb-true, ltb-false)) s
+returns-in-48-2 c n s = grind (arith, front _ n s)
+
+pub returns-in-48-3 : goal.returns-in-48-3
+returns-in-48-3 c n s = omega (arith, front _ n s)
+
+pub returns-in_err-digits-in_default : goal.returns-in_err-digits-in_default
+returns-in_err-digits-in_default c =
+    rw c.from_residual.ensures (λ n s. not_text _ _ _ c.from_utf8.result c.from_utf8.ensures.cases (sym c.ok.ensures.value ∙ c.in_err-digits-in_default.was) n s)
+
+pub returns-in_ok-digits-in_default : goal.returns-in_ok-digits-in_default
+returns-in_ok-digits-in_default c =
+    let bs = c.args.bytes.now in
+    let same : c.in_ok-digits-in_default.digits.now ≡ bs = search (rules, tests) in
+    let plain : get_or bs 0 0 ≡ 43 → ⊥ = grind arith in
+    let lead : get_or bs 0 0 ≡ 48 → length bs ≤ 1 = grind arith in
+    read_of _ bs c.parse.result c.filter.result (rw same at c.parse.ensures.value.0) plain lead (rw c.ok-in_default.ensures.value at c.filter.ensures) (λ x b k. search (rules, tests))
