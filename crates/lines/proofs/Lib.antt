@@ -1,4 +1,3 @@
-pub mod Prefix
 pub mod Numerals
 pub mod Cutting
 pub mod Naming
