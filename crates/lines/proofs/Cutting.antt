@@ -1,7 +1,8 @@
 -- Lists that are split at the first of a mark, or where a run of bytes ends.
-use Rattle.std.proofs.Common.{◌≡◌, ℕ, ◌+◌, ◌-◌, ◌<◌, List, [], ◌∷◌, ◌++◌, length, get_or, take, drop, Option, MatchOption, sym, refl, ap, ◌∙◌, subst, arith, length-take-le, take-append-drop}
-use Rattle.std.specs.List.{AllByRecursion, AllWithin, HoldsAt}
-use Rattle.std.proofs.ByRecursion.{All-from_get_or}
+use Rattle.std.proofs.Common.{◌≡◌, ℕ, false, eqb, ne_eqb, ◌+◌, ◌-◌, ◌<◌, List, [], ◌∷◌, ◌++◌, length, take, drop, Option, MatchOption, sym, refl, ap, ◌∙◌, subst, arith, length-take-le, take-append-drop}
+use Rattle.std.specs.List.{All, AllByRecursion, AllWithin, HoldsAt}
+use Rattle.std.proofs.ByRecursion.{All-from_get_or, All-weaker}
+use Rattle.std.proofs.lemmas.List.Elements.{All-from_recursion}
 use Rattle.std.proofs.lemmas.List.{take_rest, drop_more, get_or-take}
 use Rattle.lines.specs.Cuts.{Lacks, Cut}
 
@@ -32,6 +33,10 @@ pub one_place : (c : ℕ) (x y s t : List ℕ) → x ++ (c ∷ s) ≡ y ++ (c �
 one_place c x y s t e lx ly =
     let r = one_cut (λ b. b ≡ c → ⊥) x y (c ∷ s) (c ∷ t) e lx ly (λ f. f refl) (λ f. f refl) in
     record { front = r.front; back = ap (drop 1) r.back }
+
+-- what lacks c passes no test for it
+pub none_is : (c : ℕ) (bs : List ℕ) → Lacks c bs → All (λ b. eqb b c ≡ false) bs
+none_is c bs l = All-from_recursion _ bs (All-weaker (λ b. b ≡ c → ⊥) (λ b. eqb b c ≡ false) (λ b h. ne_eqb b c h) bs l)
 
 -- what `position` says of the first c
 abbrev pub IsPlace : ℕ → List ℕ → Option ℕ → Type 0

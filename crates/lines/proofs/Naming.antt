@@ -1,10 +1,9 @@
 -- Names and lists of names: a spelling has one list, which is the pieces between its commas.
-use Rattle.std.proofs.Common.{◌≡◌, ℕ, ◌<◌, ◌≤◌, Bool, true, false, eqb, ◌⊎◌, List, [], ◌∷◌, length, get_or, Option, None, Some, MatchOption, Bor, sym, refl, ap, ◌∙◌, subst, ⊎_elim, arith, ne_eqb, MatchBool}
+use Rattle.std.proofs.Common.{◌≡◌, ℕ, ◌<◌, ◌≤◌, Bool, true, false, eqb, ◌⊎◌, List, [], ◌∷◌, length, get_or, Option, None, Some, MatchOption, Bor, sym, refl, ap, ◌∙◌, subst, ⊎_elim, arith, MatchBool}
 use Rattle.std.specs.Bool.{then_some}
 use Rattle.std.specs.List.{AllByRecursion, AllWithin, HoldsAt, slice_get}
 use Rattle.std.specs.Option.{option_map}
 use Rattle.std.proofs.ByRecursion.{All-append, All-weaker, All-get_or, All-from_get_or}
-use Rattle.std.proofs.lemmas.List.Elements.{All-from_recursion}
 use Rattle.std.proofs.lemmas.List.Splits.{slice_split_none, slice_split_at, length-slice_split, join_with_byte-slice_split}
 use Rattle.std.proofs.lemmas.Option.{slice_get_cases, slice_get_within, get_or_from_slice_get}
 use Rattle.lines.specs.Names.{name_byte, NameBytes, Name, joined, pieces, FirstAt, Absent}
@@ -12,6 +11,7 @@ use Rattle.lines.specs.Told.{held, SomeNamed, Named}
 use Rattle.lines.specs.Bodies.{NoNames, NoFew}
 use Rattle.lines.specs.Cuts.{Lacks}
 use Rattle.lines.specs.declared.names.Names.{Names}
+use Rattle.lines.proofs.Cutting.{none_is}
 
 no_name : (c b : ℕ) → name_byte c ≡ false → name_byte b ≡ true → b ≡ c → ⊥
 no_name c b p q e = let h = ap name_byte e in cc
@@ -27,14 +27,11 @@ lacks_joined c p q (n ∷ m ∷ ns) a = All-append _ n _ (lacks_name c p n a.0.b
 -- pieces undoes joined
 pub pieces_joined : (ns : List (List ℕ)) → SomeNamed ns → pieces (joined ns) ≡ ns
 pieces_joined ns s = of ns s.some s.names where
-  no_comma : (n : List ℕ) → NameBytes n → AllByRecursion (λ b. eqb b 44 ≡ false) n
-  no_comma n h = All-weaker (λ b. name_byte b ≡ true) _ (λ b k. ne_eqb b 44 (no_name 44 b refl k)) n h
-
   of : (ns : List (List ℕ)) → 1 ≤ length ns → AllByRecursion Name ns → pieces (joined ns) ≡ ns
   of [] some a = absurd (omega arith)
-  of (n ∷ []) some a = slice_split_none (λ b. eqb b 44) n (All-from_recursion _ n (no_comma n a.0.bytes))
+  of (n ∷ []) some a = slice_split_none (λ b. eqb b 44) n (none_is 44 n (lacks_name 44 refl n a.0.bytes))
   of (n ∷ m ∷ ns) some a =
-      slice_split_at (λ b. eqb b 44) n 44 (joined (m ∷ ns)) (All-from_recursion _ n (no_comma n a.0.bytes)) refl ∙ ap (λ l. n ∷ l) (of (m ∷ ns) (omega arith) a.1)
+      slice_split_at (λ b. eqb b 44) n 44 (joined (m ∷ ns)) (none_is 44 n (lacks_name 44 refl n a.0.bytes)) refl ∙ ap (λ l. n ∷ l) (of (m ∷ ns) (omega arith) a.1)
 
 -- and joined undoes pieces
 pub joined_pieces : (bs : List ℕ) → joined (pieces bs) ≡ bs
@@ -45,14 +42,14 @@ pub some_piece : (bs : List ℕ) → 1 ≤ length (pieces bs)
 some_piece bs = omega (arith, length-slice_split (λ b. eqb b 44) bs)
 
 -- names spell the bytes where each piece is a name, and nowhere else
-pub some_of : (b : Bor (List ℕ)) (r : Bool) → MatchBool r (AllWithin Name (pieces b.now) 0 (length (pieces b.now))) ((k : ℕ) × (k < length (pieces b.now)) × HoldsAt (λ n. Name n → ⊥) (pieces b.now) k) → MatchOption (then_some {T = Names} r record { bytes = b }) (NoNames b.now) (λ n. SomeNamed (held n) × (b.now ≡ joined (held n)))
-some_of b true h = (
-  record { names = All-from_get_or Name (pieces b.now) [] (λ i l. h i [] (omega arith) l); some = some_piece b.now },
-  sym (joined_pieces b.now),
+pub some_of : (n : Names) (r : Bool) → MatchBool r (AllWithin Name (held n) 0 (length (held n))) ((k : ℕ) × (k < length (held n)) × HoldsAt (λ s. Name s → ⊥) (held n) k) → MatchOption (then_some r n) (NoNames n.bytes.now) (λ m. SomeNamed (held m) × (n.bytes.now ≡ joined (held m)))
+some_of n true h = (
+  record { names = All-from_get_or Name (held n) [] (λ i l. h i [] (omega arith) l); some = some_piece n.bytes.now },
+  sym (joined_pieces n.bytes.now),
 )
-some_of b false h = λ ns s e.
-    let same : pieces b.now ≡ ns = ap pieces e ∙ pieces_joined ns s in
-    h.2 [] (All-get_or Name (pieces b.now) h.0 [] h.1 (subst (AllByRecursion Name) (sym same) s.names))
+some_of n false h = λ ns s e.
+    let same : held n ≡ ns = ap pieces e ∙ pieces_joined ns s in
+    h.2 [] (All-get_or Name (held n) h.0 [] h.1 (subst (AllByRecursion Name) (sym same) s.names))
 
 -- what `position` says of a name
 pub place_of : (ns : List (List ℕ)) (name : List ℕ) (r : Option ℕ) → MatchOption r (AllWithin (λ n. n ≡ name → ⊥) ns 0 (length ns)) (λ i. (i < length ns) × HoldsAt (λ n. n ≡ name) ns i × AllWithin (λ n. n ≡ name → ⊥) ns 0 i) → MatchOption r (Absent ns name) (λ i. FirstAt ns name i)

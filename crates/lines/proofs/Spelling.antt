@@ -1,14 +1,15 @@
 -- Spelling is one-to-one: a key tells the kind, a mark is where it is first, and numbers and names have one spelling.
-use Rattle.std.proofs.Common.{◌≡◌, ℕ, ◌^◌, ◌<◌, ◌≤◌, Bool, true, false, cond, eqb, Bor, Option, MatchOption, List, [], ◌∷◌, ◌++◌, length, get_or, drop, decimal, sym, refl, ap, ◌∙◌, subst, arith, length-append, rules, eq-eqb, ne_eqb}
+use Rattle.std.proofs.Common.{◌≡◌, ℕ, ◌^◌, ◌<◌, ◌≤◌, Bool, true, false, cond, eqb, Bor, MatchOption, List, [], ◌∷◌, ◌++◌, length, get_or, decimal, sym, refl, ap, ◌∙◌, subst, arith, length-append, rules, eq-eqb}
 use borrow.Author.Tests.{clash}
 use Rattle.std.specs.Bool.{then_some}
 use Rattle.weighing.specs.Tests.{Tells}
 use Rattle.std.specs.Str.Parse.{AllDigits, digits_value}
 use Rattle.std.specs.Int.{IsInRange}
-use Rattle.std.specs.List.{AllByRecursion}
+use Rattle.std.specs.List.{AllByRecursion, slice_split}
 use Rattle.std.proofs.lemmas.Fmt.{digits_decimal, digits_value-decimal}
 use Rattle.std.proofs.ByRecursion.{All-append, All-from_get_or}
-use Rattle.std.proofs.lemmas.List.{drop_at}
+use Rattle.std.proofs.lemmas.List.{append_cancel_left}
+use Rattle.std.proofs.lemmas.List.Splits.{slice_split_at, slice_split_none}
 use Rattle.std.proofs.lemmas.Str.Parse.{IsNumeralModel, numerals_by_value, tells_digits, not_in_digits}
 use Rattle.lines.specs.Cuts.{Lacks, Cut}
 use Rattle.lines.specs.Names.{Name, joined, pieces}
@@ -17,7 +18,7 @@ use Rattle.lines.specs.Bodies.{NoBody, NoPair}
 use Rattle.lines.specs.Texts.{spell_all, NoLine}
 use Rattle.lines.specs.declared.kind.Kind.{Kind}
 use Rattle.lines.specs.declared.kind.Kind.TheVariants as kind
-use Rattle.lines.proofs.Cutting.{Same, one_place}
+use Rattle.lines.proofs.Cutting.{Same, one_place, none_is}
 use Rattle.lines.proofs.Naming.{lacks_joined, lacks_name, pieces_joined}
 
 own : IsNumeralModel (AllDigits 10) (digits_value 10)
@@ -68,9 +69,7 @@ pub one_key : (k j : Kind) (x y : List ℕ) → key k ++ x ≡ key j ++ y → k 
 one_key k j x y e = sym (first_key k x) ∙ ap (λ l. first (get_or l 0 0)) e ∙ first_key j y
 
 pub one_body : (k j : Kind) (x y : List ℕ) → key k ++ x ≡ key j ++ y → x ≡ y
-one_body k j x y e =
-    let equal : length (key k) ≡ length (key j) = ap (λ i. length (key i)) (one_key k j x y e) in
-    sym (drop_at (key k) x (length (key k)) refl) ∙ ap (λ l. drop (length (key k)) l) e ∙ drop_at (key j) y (length (key k)) (sym equal)
+one_body k j x y e = append_cancel_left (key k) x y (e ∙ ap (λ i. key i ++ y) (sym (one_key k j x y e)))
 
 -- where no value of the kind has the body, no value has it
 
@@ -134,33 +133,27 @@ no_line text bytes after cut not t rest b =
 
 -- the value that a body spells is got back from it
 
-before : ℕ → List ℕ → List ℕ
-before c [] = []
-before c (b ∷ bs) = cond (eqb b c) [] (b ∷ before c bs)
-
-after : ℕ → List ℕ → List ℕ
-after c [] = []
-after c (b ∷ bs) = cond (eqb b c) bs (after c bs)
-
-before_mark : (c : ℕ) (x y : List ℕ) → Lacks c x → before c (x ++ (c ∷ y)) ≡ x
-unfolding before
-before_mark c [] y l = rw (eq-eqb c c refl)
-before_mark c (b ∷ x) y l = rw (ne_eqb b c l.0) (ap (λ t. b ∷ t) (before_mark c x y l.1))
-
-after_mark : (c : ℕ) (x y : List ℕ) → Lacks c x → after c (x ++ (c ∷ y)) ≡ y
-unfolding after
-after_mark c [] y l = rw (eq-eqb c c refl)
-after_mark c (b ∷ x) y l = rw (ne_eqb b c l.0) (after_mark c x y l.1)
+parts : ℕ → List ℕ → List (List ℕ)
+parts c bs = slice_split (λ b. eqb b c) bs
 
 told : Kind → List ℕ → Told
 told kind.Locks bs = locks (pieces bs)
 told kind.Holders bs = holders (pieces bs)
 told kind.Table bs = table (pieces bs)
-told kind.Row bs = row (pieces (before 58 bs)) (digits_value 10 (after 58 bs))
-told kind.Differ bs = differ (pieces (before 58 bs)) (digits_value 10 (after 58 bs))
-told kind.Same bs = same (pieces (before 58 bs)) (digits_value 10 (after 58 bs))
-told kind.Join bs = join (digits_value 10 (before 44 bs)) (digits_value 10 (after 44 bs))
-told kind.Bar bs = bar (before 44 bs) (after 44 bs)
+told kind.Row bs = row (pieces (get_or (parts 58 bs) 0 [])) (digits_value 10 (get_or (parts 58 bs) 1 []))
+told kind.Differ bs = differ (pieces (get_or (parts 58 bs) 0 [])) (digits_value 10 (get_or (parts 58 bs) 1 []))
+told kind.Same bs = same (pieces (get_or (parts 58 bs) 0 [])) (digits_value 10 (get_or (parts 58 bs) 1 []))
+told kind.Join bs = join (digits_value 10 (get_or (parts 44 bs) 0 [])) (digits_value 10 (get_or (parts 44 bs) 1 []))
+told kind.Bar bs = bar (get_or (parts 44 bs) 0 []) (get_or (parts 44 bs) 1 [])
+
+two_parts : (c : ℕ) (x y : List ℕ) → Lacks c x → Lacks c y → parts c (x ++ (c ∷ y)) ≡ x ∷ (y ∷ [])
+unfolding parts
+two_parts c x y lx ly =
+    slice_split_at (λ b. eqb b c) x c y (none_is c x lx) (eq-eqb c c refl) ∙ ap (λ l. x ∷ l) (slice_split_none (λ b. eqb b c) y (none_is c y ly))
+
+charged_parts : (ns : List (List ℕ)) (n : ℕ) → AllByRecursion Name ns → n ≤ 1000000 → parts 58 (charged ns n) ≡ joined ns ∷ (decimal n ∷ [])
+charged_parts ns n a h =
+    two_parts 58 (joined ns) (decimal n) (lacks_joined 58 refl (λ k. omega arith) ns a) (lacks_decimal 58 n h (λ p. omega (arith, p.1)))
 
 names_again : (ns : List (List ℕ)) → 1 ≤ length ns → AllByRecursion Name ns → pieces (joined ns) ≡ ns
 names_again ns some a = pieces_joined ns (record { names = a; some = some })
@@ -168,31 +161,30 @@ names_again ns some a = pieces_joined ns (record { names = a; some = some })
 number_again : (n : ℕ) → n ≤ 1000000 → digits_value 10 (decimal n) ≡ n
 number_again n h = digits_value-decimal own n (omega arith)
 
-charged_names_again : (least most : ℕ) (ns : List (List ℕ)) (n : ℕ) → 1 ≤ least → Named least most ns → pieces (before 58 (charged ns n)) ≡ ns
-charged_names_again least most ns n some g =
-    ap pieces (before_mark 58 (joined ns) (decimal n) (lacks_joined 58 refl (λ k. omega arith) ns g.names)) ∙ names_again ns (omega (arith, g.least_so)) g.names
+charged_names_again : (least most : ℕ) (ns : List (List ℕ)) (n : ℕ) → 1 ≤ least → Named least most ns → n ≤ 1000000 → pieces (get_or (parts 58 (charged ns n)) 0 []) ≡ ns
+charged_names_again least most ns n some g h =
+    ap (λ l. pieces (get_or l 0 [])) (charged_parts ns n g.names h) ∙ names_again ns (omega (arith, g.least_so)) g.names
 
-charged_number_again : (ns : List (List ℕ)) (n : ℕ) → AllByRecursion Name ns → n ≤ 1000000 → digits_value 10 (after 58 (charged ns n)) ≡ n
-charged_number_again ns n a h =
-    ap (digits_value 10) (after_mark 58 (joined ns) (decimal n) (lacks_joined 58 refl (λ k. omega arith) ns a)) ∙ number_again n h
+charged_number_again : (ns : List (List ℕ)) (n : ℕ) → AllByRecursion Name ns → n ≤ 1000000 → digits_value 10 (get_or (parts 58 (charged ns n)) 1 []) ≡ n
+charged_number_again ns n a h = ap (λ l. digits_value 10 (get_or l 1 [])) (charged_parts ns n a h) ∙ number_again n h
 
 told_again : (t : Told) → Good t → told (kind_of t) (body t) ≡ t
 unfolding told
 told_again (locks ns) g = ap locks (names_again ns g.some g.names)
 told_again (holders ns) g = ap holders (names_again ns g.some g.names)
 told_again (table ns) g = ap table (names_again ns g.least_so g.names)
-told_again (row ns n) g = let p = charged_names_again 1 4 ns n (omega arith) g.0 in let q = charged_number_again ns n g.0.names g.1 in cc
-told_again (differ ns n) g = let p = charged_names_again 2 2 ns n (omega arith) g.0 in let q = charged_number_again ns n g.0.names g.1 in cc
-told_again (same ns n) g = let p = charged_names_again 2 2 ns n (omega arith) g.0 in let q = charged_number_again ns n g.0.names g.1 in cc
+told_again (row ns n) g = let p = charged_names_again 1 4 ns n (omega arith) g.0 g.1 in let q = charged_number_again ns n g.0.names g.1 in cc
+told_again (differ ns n) g = let p = charged_names_again 2 2 ns n (omega arith) g.0 g.1 in let q = charged_number_again ns n g.0.names g.1 in cc
+told_again (same ns n) g = let p = charged_names_again 2 2 ns n (omega arith) g.0 g.1 in let q = charged_number_again ns n g.0.names g.1 in cc
 told_again (join m n) g =
-    let l = lacks_decimal 44 m g.0 (λ p. omega (arith, p.0)) in
-    let p = ap (digits_value 10) (before_mark 44 (decimal m) (decimal n) l) ∙ number_again m g.0 in
-    let q = ap (digits_value 10) (after_mark 44 (decimal m) (decimal n) l) ∙ number_again n g.1 in
+    let both = two_parts 44 (decimal m) (decimal n) (lacks_decimal 44 m g.0 (λ p. omega (arith, p.0))) (lacks_decimal 44 n g.1 (λ p. omega (arith, p.0))) in
+    let p = ap (λ l. digits_value 10 (get_or l 0 [])) both ∙ number_again m g.0 in
+    let q = ap (λ l. digits_value 10 (get_or l 1 [])) both ∙ number_again n g.1 in
     cc
 told_again (bar l h) g =
-    let k = lacks_name 44 refl l g.0.bytes in
-    let p = before_mark 44 l h k in
-    let q = after_mark 44 l h k in
+    let both = two_parts 44 l h (lacks_name 44 refl l g.0.bytes) (lacks_name 44 refl h g.1.bytes) in
+    let p = ap (λ l. get_or l 0 []) both in
+    let q = ap (λ l. get_or l 1 []) both in
     cc
 
 pub one_value : (t u : Told) → Good t → Good u → spell t ≡ spell u → t ≡ u

@@ -1,4 +1,4 @@
-use Rattle.std.proofs.Common.{rules, tests, sym, ◌∙◌}
+use Rattle.std.proofs.Common.{sym, ◌∙◌}
 use borrow.Author.Tests.{clash}
 use Rattle.weighing.specs.Tests.{Tells}
 use Rattle.lines.specs.Names.{Name}

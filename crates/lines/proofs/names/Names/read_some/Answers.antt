@@ -1,4 +1,4 @@
-use Rattle.std.proofs.Common.{eqb, sym, rules, tests}
+use Rattle.std.proofs.Common.{eqb, rules, tests}
 use Rattle.std.proofs.lemmas.Iterator.{cases_from_all}
 use Rattle.std.proofs.lemmas.Iterator.Splits.{YieldsList-from_slice_split}
 use Rattle.lines.specs.Names.{Name}
