@@ -18,9 +18,9 @@ pub record Same (x y s t : List ℕ) : Type 0 where
 -- the longest front whose elements have P is one
 pub one_cut : (P : ℕ → Type 0) (x y s t : List ℕ) → x ++ s ≡ y ++ t → AllByRecursion P x → AllByRecursion P y → Ends P s → Ends P t → Same x y s t
 one_cut P [] [] s t e ax ay es et = record { front = refl; back = e }
-one_cut P [] (b ∷ y) [] t e ax ay es et = absurd (let z : ◌≡◌ {A = ℕ} 0 1 = cc in omega arith)
+one_cut P [] (b ∷ y) [] t e ax ay es et = cc
 one_cut P [] (b ∷ y) (c ∷ s) t e ax ay es et = absurd (let z : b ≡ c = cc in es (subst P z ay.0))
-one_cut P (a ∷ x) [] s [] e ax ay es et = absurd (let z : ◌≡◌ {A = ℕ} 0 1 = cc in omega arith)
+one_cut P (a ∷ x) [] s [] e ax ay es et = cc
 one_cut P (a ∷ x) [] s (c ∷ t) e ax ay es et = absurd (let z : a ≡ c = cc in et (subst P z ax.0))
 one_cut P (a ∷ x) (b ∷ y) s t e ax ay es et =
     let h : a ≡ b = cc in

@@ -5,6 +5,7 @@ ghost use Rattle.lines.specs.Told.{held, SomeNamed, Named};
 
 use super::name::is_name;
 
+// How many names there are is no invariant: the bounds that the contracts state differ by the line's kind.
 #[derive(Clone, Copy)]
 pub struct Names<'a> {
     bytes: &'a [u8],

@@ -1,5 +1,4 @@
-use Rattle.std.proofs.Common.{sym, ◌∙◌}
-use borrow.Author.Tests.{clash}
+use Rattle.std.proofs.Common.{rules, tests}
 use Rattle.weighing.specs.Tests.{Tells}
 use Rattle.lines.specs.Names.{Name}
 use Rattle.lines.proofs.Spelling.{pair_of}
@@ -9,13 +8,7 @@ use Rattle.lines.proofs.read.read_pair.Goals.{then-is_name, else-is_name}
 pub returns : goal.returns
 returns c =
     let both : Tells (Name c.in_ok-lock.lock.now × Name c.in_ok-lock.holder.now) c.if-is_name.then_some = elim c.if-is_name.branch [
-      | then-is_name w ↦ record {
-        sound = λ e. (c.is_name.ensures.sound w.if-is_name.true, w.is_name-then-is_name.ensures.sound (sym w.then_some-is ∙ e));
-        full = λ g. w.then_some-is ∙ w.is_name-then-is_name.ensures.full g.1;
-      }
-      | else-is_name w ↦ record {
-        sound = λ e. absurd (clash (sym w.if-is_name.false ∙ sym w.then_some-is ∙ e));
-        full = λ g. absurd (clash (sym w.if-is_name.false ∙ c.is_name.ensures.full g.0));
-      }
+      | then-is_name w ↦ search (rules, tests)
+      | else-is_name w ↦ search (rules, tests)
     ] in
     rw c.then_some.ensures (pair_of _ _ _ _ c.in_ok-lock.ensures both)
