@@ -1,8 +1,7 @@
 -- Lists that are split at the first of a mark, or where a run of bytes ends.
 use Rattle.std.proofs.Common.{◌≡◌, ℕ, false, eqb, ne_eqb, ◌+◌, ◌-◌, ◌<◌, List, [], ◌∷◌, ◌++◌, length, take, drop, Option, MatchOption, sym, refl, ap, ◌∙◌, subst, arith, length-take-le, take-append-drop}
 use Rattle.std.specs.List.{All, AllByRecursion, AllWithin, HoldsAt}
-use Rattle.std.proofs.ByRecursion.{All-from_get_or, All-weaker}
-use Rattle.std.proofs.lemmas.List.Elements.{All-from_recursion}
+use Rattle.std.proofs.lemmas.List.Elements.{recursion_from_All, All-append, All-cons, All-from_get_or, All-weaker}
 use Rattle.std.proofs.lemmas.List.{take_rest, drop_more, get_or-take}
 use Rattle.lines.specs.Cuts.{Lacks, Cut}
 
@@ -31,20 +30,21 @@ one_cut P (a ∷ x) (b ∷ y) s t e ax ay es et =
 -- the first c is at one place
 pub one_place : (c : ℕ) (x y s t : List ℕ) → x ++ (c ∷ s) ≡ y ++ (c ∷ t) → Lacks c x → Lacks c y → Same x y s t
 one_place c x y s t e lx ly =
-    let r = one_cut (λ b. b ≡ c → ⊥) x y (c ∷ s) (c ∷ t) e lx ly (λ f. f refl) (λ f. f refl) in
+    let r = one_cut (λ b. b ≡ c → ⊥) x y (c ∷ s) (c ∷ t) e (recursion_from_All _ x lx) (recursion_from_All _ y ly) (λ f. f refl) (λ f. f refl) in
     record { front = r.front; back = ap (drop 1) r.back }
+
+-- two lists that lack c, with another mark between
+pub lacks_between : (c d : ℕ) (x y : List ℕ) → (d ≡ c → ⊥) → Lacks c x → Lacks c y → Lacks c (x ++ (d ∷ y))
+lacks_between c d x y apart lx ly = All-append (λ b. b ≡ c → ⊥) x (d ∷ y) lx (All-cons (λ b. b ≡ c → ⊥) d y apart ly)
 
 -- what lacks c passes no test for it
 pub none_is : (c : ℕ) (bs : List ℕ) → Lacks c bs → All (λ b. eqb b c ≡ false) bs
-none_is c bs l = All-from_recursion _ bs (All-weaker (λ b. b ≡ c → ⊥) (λ b. eqb b c ≡ false) (λ b h. ne_eqb b c h) bs l)
+none_is c bs l = All-weaker (λ b. b ≡ c → ⊥) (λ b. eqb b c ≡ false) (λ b h. ne_eqb b c h) bs l
 
 -- what `position` says of the first c
 abbrev pub IsPlace : ℕ → List ℕ → Option ℕ → Type 0
 IsPlace c bs r =
     MatchOption r (AllWithin (λ b. b ≡ c → ⊥) bs 0 (length bs)) (λ i. (i < length bs) × HoldsAt (λ b. b ≡ c) bs i × AllWithin (λ b. b ≡ c → ⊥) bs 0 i)
-
-pub lacks_all : (c : ℕ) (bs : List ℕ) → AllWithin (λ b. b ≡ c → ⊥) bs 0 (length bs) → Lacks c bs
-lacks_all c bs h = All-from_get_or (λ b. b ≡ c → ⊥) bs 0 (λ i l. h i 0 (omega arith) l)
 
 pub cut_here : (c : ℕ) (bs : List ℕ) (i : ℕ) → (i < length bs) × HoldsAt (λ b. b ≡ c) bs i × AllWithin (λ b. b ≡ c → ⊥) bs 0 i → Cut c bs (take i bs) (take (length bs - (i + 1)) (drop (i + 1) bs))
 cut_here c bs i h = simp take_rest (record {
@@ -52,10 +52,9 @@ cut_here c bs i h = simp take_rest (record {
   first = All-from_get_or (λ b. b ≡ c → ⊥) (take i bs) 0 (λ k l. let m : k < i = omega (arith, length-take-le i bs (omega arith)) in rw (get_or-take i bs k 0 m) (h.2 k 0 (omega arith) m));
 })
 
-lacks_in : (x y : List ℕ) (c : ℕ) → Lacks c (x ++ (c ∷ y)) → ⊥
-lacks_in [] y c h = h.0 refl
-lacks_in (a ∷ x) y c h = lacks_in x y c h.1
-
 -- what lacks c is not split at c
 pub lacks_cut : (bs x y : List ℕ) (c : ℕ) → Lacks c bs → bs ≡ x ++ (c ∷ y) → ⊥
-lacks_cut bs x y c h e = lacks_in x y c (subst (Lacks c) e h)
+lacks_cut bs x y c h e = at x (recursion_from_All _ (x ++ (c ∷ y)) (subst (Lacks c) e h)) where
+  at : (x : List ℕ) → AllByRecursion (λ b. b ≡ c → ⊥) (x ++ (c ∷ y)) → ⊥
+  at [] h = h.0 refl
+  at (a ∷ x) h = at x h.1

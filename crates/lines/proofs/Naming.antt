@@ -3,7 +3,7 @@ use Rattle.std.proofs.Common.{◌≡◌, ℕ, ◌<◌, ◌≤◌, Bool, true, fa
 use Rattle.std.specs.Bool.{then_some}
 use Rattle.std.specs.List.{AllByRecursion, AllWithin, HoldsAt, slice_get}
 use Rattle.std.specs.Option.{option_map}
-use Rattle.std.proofs.ByRecursion.{All-append, All-weaker, All-get_or, All-from_get_or}
+use Rattle.std.proofs.lemmas.List.Elements.{All-nil, All-weaker, All-get_or, All-from_recursion, recursion_from_All}
 use Rattle.std.proofs.lemmas.List.Splits.{slice_split_none, slice_split_at, length-slice_split, join_with_byte-slice_split}
 use Rattle.std.proofs.lemmas.Option.{slice_get_cases, slice_get_within, get_or_from_slice_get}
 use Rattle.lines.specs.Names.{name_byte, NameBytes, Name, joined, pieces, FirstAt, Absent}
@@ -11,7 +11,7 @@ use Rattle.lines.specs.Told.{held, SomeNamed, Named}
 use Rattle.lines.specs.Bodies.{NoNames, NoFew}
 use Rattle.lines.specs.Cuts.{Lacks}
 use Rattle.lines.specs.declared.names.Names.{Names}
-use Rattle.lines.proofs.Cutting.{none_is}
+use Rattle.lines.proofs.Cutting.{none_is, lacks_between}
 
 no_name : (c b : ℕ) → name_byte c ≡ false → name_byte b ≡ true → b ≡ c → ⊥
 no_name c b p q e = let h = ap name_byte e in cc
@@ -20,9 +20,9 @@ pub lacks_name : (c : ℕ) → name_byte c ≡ false → (n : List ℕ) → Name
 lacks_name c p n h = All-weaker (λ b. name_byte b ≡ true) _ (λ b k. no_name c b p k) n h
 
 pub lacks_joined : (c : ℕ) → name_byte c ≡ false → (44 ≡ c → ⊥) → (ns : List (List ℕ)) → AllByRecursion Name ns → Lacks c (joined ns)
-lacks_joined c p q [] a = tt
+lacks_joined c p q [] a = All-nil (λ b. b ≡ c → ⊥)
 lacks_joined c p q (n ∷ []) a = lacks_name c p n a.0.bytes
-lacks_joined c p q (n ∷ m ∷ ns) a = All-append _ n _ (lacks_name c p n a.0.bytes) (q, lacks_joined c p q (m ∷ ns) a.1)
+lacks_joined c p q (n ∷ m ∷ ns) a = lacks_between c 44 n (joined (m ∷ ns)) q (lacks_name c p n a.0.bytes) (lacks_joined c p q (m ∷ ns) a.1)
 
 -- pieces undoes joined
 pub pieces_joined : (ns : List (List ℕ)) → SomeNamed ns → pieces (joined ns) ≡ ns
@@ -44,12 +44,12 @@ some_piece bs = omega (arith, length-slice_split (λ b. eqb b 44) bs)
 -- names spell the bytes where each piece is a name, and nowhere else
 pub some_of : (n : Names) (r : Bool) → MatchBool r (AllWithin Name (held n) 0 (length (held n))) ((k : ℕ) × (k < length (held n)) × HoldsAt (λ s. Name s → ⊥) (held n) k) → MatchOption (then_some r n) (NoNames n.bytes.now) (λ m. SomeNamed (held m) × (n.bytes.now ≡ joined (held m)))
 some_of n true h = (
-  record { names = All-from_get_or Name (held n) [] (λ i l. h i [] (omega arith) l); some = some_piece n.bytes.now },
+  record { names = recursion_from_All Name (held n) (λ k d l. h k d (omega arith) l); some = some_piece n.bytes.now },
   sym (joined_pieces n.bytes.now),
 )
 some_of n false h = λ ns s e.
     let same : held n ≡ ns = ap pieces e ∙ pieces_joined ns s in
-    h.2 [] (All-get_or Name (held n) h.0 [] h.1 (subst (AllByRecursion Name) (sym same) s.names))
+    h.2 [] (All-get_or Name (held n) h.0 [] h.1 (All-from_recursion Name (held n) (subst (AllByRecursion Name) (sym same) s.names)))
 
 -- what `position` says of a name
 pub place_of : (ns : List (List ℕ)) (name : List ℕ) (r : Option ℕ) → MatchOption r (AllWithin (λ n. n ≡ name → ⊥) ns 0 (length ns)) (λ i. (i < length ns) × HoldsAt (λ n. n ≡ name) ns i × AllWithin (λ n. n ≡ name → ⊥) ns 0 i) → MatchOption r (Absent ns name) (λ i. FirstAt ns name i)

@@ -7,7 +7,7 @@ use Rattle.std.specs.Str.Parse.{AllDigits, digits_value}
 use Rattle.std.specs.Int.{IsInRange}
 use Rattle.std.specs.List.{AllByRecursion, slice_split}
 use Rattle.std.proofs.lemmas.Fmt.{digits_decimal, digits_value-decimal}
-use Rattle.std.proofs.ByRecursion.{All-append, All-from_get_or}
+use Rattle.std.proofs.lemmas.List.Elements.{All-append, All-from_get_or, All-from_recursion}
 use Rattle.std.proofs.lemmas.List.{append_cancel_left}
 use Rattle.std.proofs.lemmas.List.Splits.{slice_split_at, slice_split_none}
 use Rattle.std.proofs.lemmas.Str.Parse.{IsNumeralModel, numerals_by_value, tells_digits, not_in_digits}
@@ -18,7 +18,7 @@ use Rattle.lines.specs.Bodies.{NoBody, NoPair}
 use Rattle.lines.specs.Texts.{spell_all, NoLine}
 use Rattle.lines.specs.declared.kind.Kind.{Kind}
 use Rattle.lines.specs.declared.kind.Kind.TheVariants as kind
-use Rattle.lines.proofs.Cutting.{Same, one_place, none_is}
+use Rattle.lines.proofs.Cutting.{Same, one_place, none_is, lacks_between}
 use Rattle.lines.proofs.Naming.{lacks_joined, lacks_name, pieces_joined}
 
 own : IsNumeralModel (AllDigits 10) (digits_value 10)
@@ -91,14 +91,14 @@ no_value k rest bytes e not t r =
 -- no line holds its end byte
 
 lacks_key : (k : Kind) → Lacks 10 (key k)
-lacks_key kind.Locks = search rules
-lacks_key kind.Holders = search rules
-lacks_key kind.Table = search rules
-lacks_key kind.Row = search rules
-lacks_key kind.Differ = search rules
-lacks_key kind.Same = search rules
-lacks_key kind.Join = search rules
-lacks_key kind.Bar = search rules
+lacks_key kind.Locks = All-from_recursion (λ b. b ≡ 10 → ⊥) (key kind.Locks) (search rules)
+lacks_key kind.Holders = All-from_recursion (λ b. b ≡ 10 → ⊥) (key kind.Holders) (search rules)
+lacks_key kind.Table = All-from_recursion (λ b. b ≡ 10 → ⊥) (key kind.Table) (search rules)
+lacks_key kind.Row = All-from_recursion (λ b. b ≡ 10 → ⊥) (key kind.Row) (search rules)
+lacks_key kind.Differ = All-from_recursion (λ b. b ≡ 10 → ⊥) (key kind.Differ) (search rules)
+lacks_key kind.Same = All-from_recursion (λ b. b ≡ 10 → ⊥) (key kind.Same) (search rules)
+lacks_key kind.Join = All-from_recursion (λ b. b ≡ 10 → ⊥) (key kind.Join) (search rules)
+lacks_key kind.Bar = All-from_recursion (λ b. b ≡ 10 → ⊥) (key kind.Bar) (search rules)
 
 lacks_names : (ns : List (List ℕ)) → AllByRecursion Name ns → Lacks 10 (joined ns)
 lacks_names ns a = lacks_joined 10 refl (λ e. omega arith) ns a
@@ -106,11 +106,8 @@ lacks_names ns a = lacks_joined 10 refl (λ e. omega arith) ns a
 lacks_number : (n : ℕ) → n ≤ 1000000 → Lacks 10 (decimal n)
 lacks_number n h = lacks_decimal 10 n h (λ p. omega (arith, p.0))
 
-lacks_between : (c : ℕ) (x y : List ℕ) → (c ≡ 10 → ⊥) → Lacks 10 x → Lacks 10 y → Lacks 10 (x ++ (c ∷ y))
-lacks_between c x y apart lx ly = All-append _ x _ lx (apart, ly)
-
 lacks_charged : (ns : List (List ℕ)) (n : ℕ) → AllByRecursion Name ns → n ≤ 1000000 → Lacks 10 (charged ns n)
-lacks_charged ns n a h = lacks_between 58 (joined ns) (decimal n) (λ e. omega arith) (lacks_names ns a) (lacks_number n h)
+lacks_charged ns n a h = lacks_between 10 58 (joined ns) (decimal n) (λ e. omega arith) (lacks_names ns a) (lacks_number n h)
 
 lacks_body : (t : Told) → Good t → Lacks 10 (body t)
 lacks_body (locks ns) g = lacks_names ns g.names
@@ -119,11 +116,11 @@ lacks_body (table ns) g = lacks_names ns g.names
 lacks_body (row ns n) g = lacks_charged ns n g.0.names g.1
 lacks_body (differ ns n) g = lacks_charged ns n g.0.names g.1
 lacks_body (same ns n) g = lacks_charged ns n g.0.names g.1
-lacks_body (join m n) g = lacks_between 44 (decimal m) (decimal n) (λ e. omega arith) (lacks_number m g.0) (lacks_number n g.1)
-lacks_body (bar l h) g = lacks_between 44 l h (λ e. omega arith) (lacks_name 10 refl l g.0.bytes) (lacks_name 10 refl h g.1.bytes)
+lacks_body (join m n) g = lacks_between 10 44 (decimal m) (decimal n) (λ e. omega arith) (lacks_number m g.0) (lacks_number n g.1)
+lacks_body (bar l h) g = lacks_between 10 44 l h (λ e. omega arith) (lacks_name 10 refl l g.0.bytes) (lacks_name 10 refl h g.1.bytes)
 
 pub lacks_spell : (t : Told) → Good t → Lacks 10 (spell t)
-lacks_spell t g = All-append _ (key (kind_of t)) (body t) (lacks_key (kind_of t)) (lacks_body t g)
+lacks_spell t g = All-append (λ b. b ≡ 10 → ⊥) (key (kind_of t)) (body t) (lacks_key (kind_of t)) (lacks_body t g)
 
 -- no line begins a text whose first line has no value
 pub no_line : (text bytes after : List ℕ) → Cut 10 text bytes after → ((t : Told) → Reads t bytes → ⊥) → NoLine text

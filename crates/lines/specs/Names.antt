@@ -1,14 +1,14 @@
 -- A name, a list of names, and the spelling of such a list.
 use Rattle.std.specs.Prelude.{◌≡◌, ℕ, ◌<◌, ◌≤◌, Bool, true, ◌||◌, List, [], length, get_or, ◌==◌, ◌≢◌, slice_index_or}
 use Rattle.std.specs.Char.{is_ascii_digit, is_ascii_alphabetic}
-use Rattle.std.specs.List.{AllByRecursion, join_with_byte, slice_split}
+use Rattle.std.specs.List.{All, join_with_byte, slice_split}
 
 -- a letter, a digit, `-` or `_`
 abbrev pub name_byte : ℕ → Bool
 name_byte b = is_ascii_alphabetic b || (is_ascii_digit b || (b == 45 || b == 95))
 
 abbrev pub NameBytes : List ℕ → Type 0
-NameBytes bs = AllByRecursion (λ b. name_byte b ≡ true) bs
+NameBytes bs = All (λ b. name_byte b ≡ true) bs
 
 -- a name: 1 to 24 such bytes
 pub record Name (bs : List ℕ) : Type 0 where
