@@ -42,10 +42,11 @@ fn trials() -> [Trial; 15] {
 
 // Whether the first argument asks for the measurements.
 fn asked(rt: &HostRuntime) -> io::Result<bool> {
-    match env::args(rt)?.nth(1) {
-        Some(word) => Ok(word.as_str() == "run"),
-        None => Ok(false),
-    }
+    Ok(
+        env::args(rt)?
+            .nth(1)
+            .is_some_and(|word| word.as_str() == "run"),
+    )
 }
 
 // Measures each book, or says how to.

@@ -1,18 +1,22 @@
 // The lines that are printed.
 use crate::grid::{Grid, Kind};
 use crate::rows::{in_turn, joint_rows};
-use crate::trial::{Memory, Trial, accepted, nanos};
-use anyhow::anyhow;
+use crate::trial::{Trial, accepted, nanos};
+use anyhow::Context;
 use book::Book;
-use engine::{Case, Question};
+use engine::Case;
+use std::alloc::Global;
+use std::fmt;
+use weighing::Cost;
 
-// The name of a kind.
-fn name(kind: Kind) -> &'static str {
-    match kind {
-        Kind::Path => "path",
-        Kind::Star => "star",
-        Kind::Ring => "ring",
-        Kind::Wide => "wide",
+impl fmt::Display for Kind {
+    fn fmt<W: fmt::Write>(&self, f: &mut fmt::Formatter<W>) -> fmt::Result {
+        f.write_str(match self {
+            Kind::Path => "path",
+            Kind::Star => "star",
+            Kind::Ring => "ring",
+            Kind::Wide => "wide",
+        })
     }
 }
 
@@ -25,42 +29,39 @@ pub(crate) fn heading(rt: &HostRuntime) -> anyhow::Result<()> {
 }
 
 // A case of a book with the order in turn.
-fn ordered(grid: Grid) -> anyhow::Result<Case<Grid>> {
-    let tables = grid.tables();
+fn ordered(alloc: Global, grid: Grid) -> anyhow::Result<Case<Grid>> {
+    let joins = in_turn(alloc, grid.tables())?;
     let mut case = Case::new(grid);
-    let joins = in_turn(tables);
-    match joins.get(0..tables.saturating_sub(1)) {
-        Some(joins) => accepted(case.order(joins))?,
-        None => {}
-    }
+    accepted(case.order(joins.as_slice()))?;
     Ok(case)
 }
 
 // Measures one book and prints its line.
 pub(crate) fn line(rt: &HostRuntime, trial: Trial) -> anyhow::Result<()> {
-    let grid = match Grid::new(trial.kind, trial.locks, trial.holders) {
-        Some(grid) => grid,
-        None => return Err(anyhow!("no such book")),
-    };
+    let Trial {
+        kind,
+        locks,
+        holders,
+    } = trial;
+    let grid = Grid::new(kind, locks, holders).context("no such book")?;
     let rows = joint_rows(&grid);
     let joins = grid.tables().saturating_sub(1);
-    let case = ordered(grid)?;
-    let need = accepted(case.cells_needed())?;
-    let mut memory = Memory {
-        cells: vec![in rt.alloc(); 0u32; need]?,
-        sheet: vec![in rt.alloc(); 0u32; 65536]?,
-        holders: [0; 64],
-    };
-    let total = nanos(rt, &case, Question::Total, &mut memory)?;
-    let table = nanos(rt, &case, Question::TableSheet(0), &mut memory)?;
-    let lock = nanos(rt, &case, Question::LockSheet(0), &mut memory)?;
-    let assignment = nanos(rt, &case, Question::Assignment, &mut memory)?;
-    print!(rt;
-        "{} {} {} {joins} {rows}",
-        name(trial.kind),
-        trial.locks,
-        trial.holders
+    let case = ordered(rt.alloc(), grid)?;
+    let mut cells = vec![in rt.alloc(); 0u32; accepted(case.cells_needed())?]?;
+    let mut sheet = vec![in rt.alloc(); 0u32; 65536]?;
+    let mut found = [0; 64];
+    let total = nanos(rt, || case.total::<Cost>(cells.as_mut_slice()).map(|_| ()))?;
+    let table = nanos(rt, || {
+        case.table_sheet::<Cost>(0, cells.as_mut_slice(), sheet.as_mut_slice())
+    })?;
+    let lock = nanos(rt, || {
+        case.lock_sheet::<Cost>(0, cells.as_mut_slice(), sheet.as_mut_slice())
+    })?;
+    let assignment = nanos(
+        rt,
+        || case.assignment::<Cost>(cells.as_mut_slice(), &mut found),
     )?;
+    print!(rt; "{kind} {locks} {holders} {joins} {rows}")?;
     print!(rt; " {} {} {}", total / 1000, table / 1000, lock / 1000)?;
     let each = (total as u128)
         .checked_mul(100)

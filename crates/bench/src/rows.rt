@@ -2,49 +2,56 @@
 use crate::grid::Grid;
 use aggregation::Join;
 use book::Book;
+use std::alloc::{AllocError, Global};
 
-// The joins of so many tables in turn; those in use are one fewer than the tables.
-pub(crate) fn in_turn(tables: usize) -> [Join; 63] {
-    let mut joins = [Join { left: 0, right: 1 }; 63];
-    for i in 1..63usize {
-        joins[i] = Join {
-            left: tables.saturating_add(i - 1),
-            right: i + 1,
+// The joins of so many tables in turn.
+pub(crate) fn in_turn(alloc: Global, tables: usize) -> Result<Vec<Join>, AllocError> {
+    let mut joins = Vec::new(alloc);
+    for right in 1..tables {
+        let left = if right == 1 {
+            0
+        } else {
+            tables.saturating_add(right - 2)
         };
+        joins.push(Join { left, right })?;
     }
-    joins
+    Ok(joins)
+}
+
+// The first and the last table that has a lock.
+#[derive(Clone, Copy)]
+struct Span {
+    first: usize,
+    last: usize,
+}
+
+// The spans of all locks; one that no table has begins after the last table.
+fn spans(grid: &Grid) -> [Span; 64] {
+    let mut spans = [Span { first: 64, last: 0 }; 64];
+    for table in 0..grid.tables() {
+        let scope = grid.scope(table);
+        for place in 0..scope.len() {
+            let span = &mut spans[scope.lock(place)];
+            span.first = span.first.min(table);
+            span.last = table;
+        }
+    }
+    spans
 }
 
 // How many rows the join of what came before with a table has: it is over the locks of that table and those before it
 // that a later table has too, and the first join over all locks of both its tables.
-fn rows_at(first: &[usize; 64], last: &[usize; 64], holders: usize, table: usize) -> usize {
-    let mut rows = 1usize;
-    for lock in 0..64usize {
-        if first[lock] <= table && (last[lock] >= table || table == 1) {
-            rows = rows.saturating_mul(holders);
-        }
-    }
-    rows
+fn rows_at(spans: &[Span; 64], holders: usize, table: usize) -> usize {
+    spans
+        .iter()
+        .filter(|span| span.first <= table && (span.last >= table || table == 1))
+        .fold(1usize, |rows, _| rows.saturating_mul(holders))
 }
 
 // How many joint rows all joins have together.
 pub(crate) fn joint_rows(grid: &Grid) -> usize {
-    let tables = grid.tables();
-    let mut first = [64usize; 64];
-    let mut last = [0usize; 64];
-    for table in 0..tables {
-        let scope = grid.scope(table);
-        for i in 0..scope.len() {
-            let lock = scope.lock(i);
-            if table < first[lock] {
-                first[lock] = table;
-            }
-            last[lock] = table;
-        }
-    }
-    let mut rows = 0usize;
-    for table in 1..tables {
-        rows = rows.saturating_add(rows_at(&first, &last, grid.holders(), table));
-    }
-    rows
+    let spans = spans(grid);
+    (1..grid.tables())
+        .map(|table| rows_at(&spans, grid.holders(), table))
+        .fold(0usize, |rows, more| rows.saturating_add(more))
 }

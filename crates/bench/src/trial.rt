@@ -1,10 +1,8 @@
 // One book to measure on, and the clocked questions.
-use crate::grid::{Grid, Kind};
+use crate::grid::Kind;
 use anyhow::anyhow;
 use book::Refusal;
-use engine::{Case, Question};
 use std::time::Instant;
-use weighing::Cost;
 
 #[derive(Clone, Copy)]
 pub(crate) struct Trial {
@@ -13,57 +11,23 @@ pub(crate) struct Trial {
     pub(crate) holders: usize,
 }
 
-// The memory that questions are lent.
-#[derive(Drop)]
-pub(crate) struct Memory {
-    pub(crate) cells: Vec<u32>,
-    pub(crate) sheet: Vec<u32>,
-    pub(crate) holders: [usize; 64],
-}
-
 // A refusal as an error of the program.
 pub(crate) fn accepted<T: Drop>(answer: Result<T, Refusal>) -> anyhow::Result<T> {
-    match answer {
-        Ok(value) => Ok(value),
-        Err(_) => Err(anyhow!("the engine refused a call")),
-    }
-}
-
-// Asks a question under cost.
-fn ask(case: &Case<Grid>, question: Question, memory: &mut Memory) -> Result<(), Refusal> {
-    match question {
-        Question::Total => match case.total::<Cost>(memory.cells.as_mut_slice()) {
-            Ok(_) => Ok(()),
-            Err(refusal) => Err(refusal),
-        },
-        Question::TableSheet(table) => case.table_sheet::<Cost>(
-            table,
-            memory.cells.as_mut_slice(),
-            memory.sheet.as_mut_slice(),
-        ),
-        Question::LockSheet(lock) => case.lock_sheet::<Cost>(
-            lock,
-            memory.cells.as_mut_slice(),
-            memory.sheet.as_mut_slice(),
-        ),
-        Question::Assignment => case.assignment::<Cost>(
-            memory.cells.as_mut_slice(),
-            &mut memory.holders,
-        ),
-    }
+    answer.map_err(|_| anyhow!("the engine refused a call"))
 }
 
 // How many nanoseconds a question takes, the mean of some rounds.
-fn mean(
+fn mean<F: FnMut() -> Result<(), Refusal>>(
     rt: &HostRuntime,
-    case: &Case<Grid>,
-    question: Question,
-    memory: &mut Memory,
+    ask: &mut F,
     rounds: u32,
-) -> anyhow::Result<u64> {
+) -> anyhow::Result<u64>
+    requires { F.IsAlwaysCallable ask.old }
+    ensures { F.IsAlwaysCallable ask.new }
+{
     let start = Instant::now(rt)?;
     for _ in 0..rounds {
-        accepted(ask(case, question, memory))?;
+        accepted(ask())?;
     }
     let spent = start.elapsed(rt)?.as_nanos();
     let each = spent.checked_div(u128::from(rounds)).unwrap_or(0);
@@ -77,12 +41,12 @@ fn rounds(once: u64) -> u32 {
 }
 
 // How many nanoseconds a question takes; one round before the others tells how many these are to be.
-pub(crate) fn nanos(
+pub(crate) fn nanos<F: FnMut() -> Result<(), Refusal>>(
     rt: &HostRuntime,
-    case: &Case<Grid>,
-    question: Question,
-    memory: &mut Memory,
-) -> anyhow::Result<u64> {
-    let once = mean(rt, case, question, memory, 1)?;
-    mean(rt, case, question, memory, rounds(once))
+    mut ask: F,
+) -> anyhow::Result<u64>
+    requires { F.IsAlwaysCallable ask }
+{
+    let once = mean(rt, &mut ask, 1)?;
+    mean(rt, &mut ask, rounds(once))
 }

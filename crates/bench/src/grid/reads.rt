@@ -1,31 +1,21 @@
-ghost use Rattle.std.specs.Prelude.{◌≡◌, ◌+◌, ◌<◌, ◌≤◌, [], ◌∷◌};
+ghost use Rattle.std.specs.Prelude.{◌≡◌, ◌<◌, ◌≤◌, length};
+ghost use Rattle.book.specs.Lists.{Rising, Below};
 ghost use Rattle.book.specs.Scopes.{named};
 ghost use Rattle.bench.specs.Grids.{tables_of, scope_of, scope_at, by_formula, grid_ranged};
 
 use super::{Grid, Kind};
 use book::{Book, Scope};
+use std::array;
 use weighing::Charge;
 
-// A scope of two locks.
-fn pair(first: usize, second: usize) -> Scope
-    requires { (first < second) × (second < 64) }
-    ensures { named result ≡ first ∷ second ∷ [] }
+// The scope of these locks.
+fn over(locks: &[usize]) -> Scope
+    requires few { length locks.now ≤ 6 }
+    requires rising { Rising locks.now }
+    requires below { Below 64 locks.now }
+    ensures { named result ≡ locks.now }
 {
-    match Scope::of(&[first, second]) {
-        Some(scope) => scope,
-        None => Scope::none(),
-    }
-}
-
-// A scope of the four locks from one on.
-fn four(first: usize) -> Scope
-    requires { first + 3 < 64 }
-    ensures { named result ≡ first ∷ (first + 1) ∷ (first + 2) ∷ (first + 3) ∷ [] }
-{
-    match Scope::of(&[first, first + 1, first + 2, first + 3]) {
-        Some(scope) => scope,
-        None => Scope::none(),
-    }
+    Scope::of(locks).unwrap()
 }
 
 impl Kind {
@@ -35,8 +25,7 @@ impl Kind {
         ensures { result ≡ tables_of self locks }
     {
         match self {
-            Kind::Path => locks - 1,
-            Kind::Star => locks - 1,
+            Kind::Path | Kind::Star => locks - 1,
             Kind::Ring => locks,
             Kind::Wide => locks / 2 - 1,
         }
@@ -48,29 +37,24 @@ impl Kind {
         ensures { named result ≡ scope_of self locks table }
     {
         match self {
-            Kind::Path => pair(table, table + 1),
-            Kind::Star => pair(0, table + 1),
-            Kind::Ring => {
-                if table + 1 < locks {
-                    pair(table, table + 1)
-                } else {
-                    pair(0, locks - 1)
-                }
-            }
-            Kind::Wide => four(2 * table),
+            Kind::Path => over(&[table, table + 1]),
+            Kind::Star => over(&[0, table + 1]),
+            Kind::Ring if table + 1 < locks => over(&[table, table + 1]),
+            Kind::Ring => over(&[0, locks - 1]),
+            Kind::Wide => over(&[2 * table, 2 * table + 1, 2 * table + 2, 2 * table + 3]),
         }
     }
 }
 
 // The charges in turn: every fifth row is absent, the others are charged 0 to 6.
 fn pattern() -> [Option<Charge>; 35] {
-    let mut charges = [None; 35];
-    for i in 0..35u32 {
-        if i % 5 != 0 {
-            charges[i as usize] = Charge::new(i % 7);
+    array::from_fn(|row| {
+        if row % 5 == 0 {
+            None
+        } else {
+            Charge::new((row % 7) as u32)
         }
-    }
-    charges
+    })
 }
 
 impl Grid {
