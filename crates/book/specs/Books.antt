@@ -1,6 +1,6 @@
 -- What a book means, and the ranges that every book keeps to.
 use Rattle.std.specs.Prelude.{◌≡◌, ℕ, ◌^◌, ◌<◌, ◌≤◌, List, [], length, None, Option}
-use Rattle.weighing.specs.declared.charge.Charge.{Charge}
+use Rattle.weighing.specs.Charges.{Charge}
 use Rattle.book.specs.Lists.{Rising, Below}
 
 -- Locks, holders and tables are numbered from 0. A table's row number is its holders read as digits of base

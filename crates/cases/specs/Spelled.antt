@@ -1,6 +1,6 @@
 -- The case that the lines of a text spell: what its book means and which pairs it bars.
 use Rattle.std.specs.Prelude.{ℕ, ◌-◌, ◌^◌, Bool, false, cond, ◌&&◌, List, [], ◌++◌, map, length, None, Option, nat_lt, slice_index_or}
-use Rattle.weighing.specs.declared.charge.Charge.{Charge}
+use Rattle.weighing.specs.Charges.{Charge}
 use Rattle.book.specs.Books.{Meaning}
 use Rattle.aggregation.specs.declared.join.Join.{Join}
 use Rattle.lines.specs.Told.{Told}

@@ -2,7 +2,7 @@
 use Rattle.std.specs.Prelude.{◌≡◌, ◌^◌, Bool, true, false, cond, ◌&&◌, length, None, Option, ◌≢◌, nat_lt, refl}
 use Rattle.std.proofs.Common.{arith}
 use Rattle.std.proofs.lemmas.Bool.{ltb-true, and_parts}
-use Rattle.weighing.specs.declared.charge.Charge.{Charge}
+use Rattle.weighing.specs.Charges.{Charge}
 use Rattle.book.specs.Books.{Meaning, Ranged}
 use Rattle.aggregation.specs.Nets.{Shape}
 use Rattle.order.specs.declared.shape.BookShape.{BookShape}

@@ -5,7 +5,7 @@ use Rattle.book.specs.Books.{Meaning}
 use Rattle.book.specs.Layers.{bar_at, bar_put}
 use Rattle.book.specs.Scopes.{named}
 use Rattle.book.specs.declared.scope.Scope.{Scope}
-use Rattle.weighing.specs.declared.charge.Charge.{Charge}
+use Rattle.weighing.specs.Charges.{Charge}
 use Rattle.filing.specs.declared.draft.Draft.{Draft}
 use Rattle.filing.specs.declared.join.Join.{Join}
 use Rattle.filing.specs.declared.reader.Entry.TheVariants as entry

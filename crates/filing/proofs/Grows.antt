@@ -1,7 +1,7 @@
 -- A book that a table was added to.
 use Rattle.std.proofs.Common.{◌≡◌, ℕ, ◌^◌, ◌<◌, true, cond, ◌&&◌, ltb, length, None, Option, sym, ap, ◌∙◌, arith}
 use Rattle.std.proofs.lemmas.Bool.{lt-ltb, and_from, cond-true}
-use Rattle.weighing.specs.declared.charge.Charge.{Charge}
+use Rattle.weighing.specs.Charges.{Charge}
 use Rattle.book.specs.Scopes.{named}
 use Rattle.book.specs.declared.scope.Scope.{Scope}
 use Rattle.filing.specs.declared.shape.Shape.{Shape}

@@ -4,7 +4,7 @@ use native.Mathlib.Nat.{pow-zero}
 use Rattle.std.proofs.lemmas.Nat.{div-mul-add, mod-mul-add}
 use Rattle.std.proofs.lemmas.List.{length-map, get_or-map, get_or-set_same, get_or-set_other, map-set}
 use Rattle.std.proofs.lemmas.Bool.{lt-ltb, eq-eqb, ne_eqb, eqb-false, not_from_true, not_from_false, and_from, cases_Bool, cond-true, cond-false}
-use Rattle.weighing.specs.declared.charge.Charge.{Charge}
+use Rattle.weighing.specs.Charges.{Charge}
 use Rattle.book.specs.Lists.{Below}
 use Rattle.book.specs.Rows.{row_number}
 use Rattle.book.proofs.Numbers.{below_cons, rows_numbered}

@@ -1,6 +1,6 @@
 -- What lines say together: the scopes of the tables, the rules, the joins and the bars, each in the text's order.
 use Rattle.std.specs.Prelude.{◌≡◌, ℕ, ◌^◌, ◌<◌, Bool, true, List, [], ◌∷◌, ◌++◌, map, length, None, Option, slice_index_or}
-use Rattle.weighing.specs.declared.charge.Charge.{Charge}
+use Rattle.weighing.specs.Charges.{Charge}
 use Rattle.book.specs.Books.{Meaning}
 use Rattle.book.specs.Layers.{bar_put}
 use Rattle.lines.specs.Told.{Told, locks, holders, table, row, differ, same, join, bar}

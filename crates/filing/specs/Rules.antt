@@ -1,6 +1,6 @@
 -- What a rule book means.
 use Rattle.std.specs.Prelude.{◌≡◌, ℕ, ◌/◌, ◌%◌, ◌<◌, Bool, cond, not, List, [], ◌∷◌, map, length, Some, None, Option, ◌==◌, slice_index_or}
-use Rattle.weighing.specs.declared.charge.Charge.{Charge}
+use Rattle.weighing.specs.Charges.{Charge}
 use Rattle.book.specs.Books.{Meaning}
 use Rattle.book.specs.Rows.{row_number}
 use Rattle.filing.specs.declared.rule.RuleForm.{RuleForm}

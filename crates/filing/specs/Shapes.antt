@@ -1,7 +1,7 @@
 -- A book by its shape: its numbers and scopes, and what its rows are charged.
 use Rattle.std.specs.Prelude.{◌≡◌, ℕ, ◌+◌, ◌^◌, ◌<◌, Bool, cond, ◌&&◌, List, length, None, Option, nat_lt, slice_set}
 use Rattle.std.proofs.lemmas.Bool.{le-ltb, and_left, and_right, cond-false}
-use Rattle.weighing.specs.declared.charge.Charge.{Charge}
+use Rattle.weighing.specs.Charges.{Charge}
 use Rattle.book.specs.Books.{Meaning, Ranged}
 use Rattle.book.specs.declared.scope.Scope.{Scope}
 use Rattle.filing.specs.Scopes.{scope_at}

@@ -1,6 +1,6 @@
 -- What a written book means.
 use Rattle.std.specs.Prelude.{◌≡◌, ℕ, ◌^◌, ◌<◌, cond, ◌&&◌, List, [], ◌∷◌, ◌++◌, length, Some, None, Option, ◌==◌}
-use Rattle.weighing.specs.declared.charge.Charge.{Charge}
+use Rattle.weighing.specs.Charges.{Charge}
 use Rattle.book.specs.Books.{Meaning}
 use Rattle.filing.specs.declared.record.RowRecord.{RowRecord}
 use Rattle.filing.specs.declared.written.WrittenBook.{WrittenBook}

@@ -1,7 +1,7 @@
 -- The full text of a case: the two lists of names, each table with its permitted rows rising, the joins, and the bars
 -- rising. Bars are left aside in the rows, and a rule's table is spelled by its rows like any other.
 use Rattle.std.specs.Prelude.{ℕ, zero, suc, ◌*◌, ◌/◌, ◌%◌, ◌^◌, Bool, cond, List, [], ◌∷◌, ◌++◌, map, length, Some, None, Option, slice_index_or}
-use Rattle.weighing.specs.declared.charge.Charge.{Charge}
+use Rattle.weighing.specs.Charges.{Charge}
 use Rattle.book.specs.Books.{Meaning}
 use Rattle.book.specs.Rows.{digits}
 use Rattle.aggregation.specs.declared.join.Join.{Join}

@@ -3,7 +3,7 @@ use Rattle.std.proofs.Common.{◌≡◌, ℕ, ◌^◌, ◌<◌, Bool, true, fals
 use Rattle.std.specs.List.{AllByRecursion}
 use Rattle.std.proofs.ByRecursion.{All-from_get_or, all_kept_by, All-weaker}
 use Rattle.std.proofs.lemmas.Bool.{cases_Bool, and_parts}
-use Rattle.weighing.specs.declared.charge.Charge.{Charge}
+use Rattle.weighing.specs.Charges.{Charge}
 use Rattle.weighing.specs.Semirings.{either_over, Better}
 use Rattle.weighing.specs.Laws.{Algebra, Lawful}
 use Rattle.book.specs.Books.{Meaning, Ranged}
@@ -63,10 +63,7 @@ module _ {W P : Type 0} (a : Algebra W P) (laws : Lawful a) (m : Meaning) (r : R
   one_table = omega (arith, order.counted)
 
   by_tests : (p u : Bool) (w : W) → (p ≡ false → w ≡ a.ops.none) → cond u a.ops.none w ≡ cond (p && not u) w a.ops.none
-  by_tests true true w z = refl
-  by_tests true false w z = refl
-  by_tests false true w z = refl
-  by_tests false false w z = z refl
+  by_tests p u w z = grind arith
 
   -- in the barred book a permitted assignment weighs what it weighs in the book, and any other none
   pub weigh_allowed : (x : List ℕ) → Assignment m.holders m.locks x → weight a (barred bars m) x ≡ cond (allowed m bars x) (weight a m x) a.ops.none

@@ -1,7 +1,10 @@
 use Rattle.std.specs.Prelude.{◌≡◌, ℕ, ◌≤◌}
-use mathlib.Core.HLevel.{is_prop→PathP}
-use Rattle.std.proofs.Math.Bridge.{le_prop}
-use Rattle.weighing.specs.declared.charge.Charge.{Charge}
+use Rattle.weighing.specs.Capping.{capped_eq}
+use Rattle.weighing.specs.declared.capped.Capped.{Capped}
+
+-- a charge: a number from 0 to 1,000,000
+abbrev pub Charge : Type 0
+Charge = Capped 1000000
 
 -- the charge of a number in range
 abbrev pub charge : (n : ℕ) → n ≤ 1000000 → Charge
@@ -9,4 +12,4 @@ charge n h = record { value = n; small = h }
 
 -- two charges of one value are one
 pub charge_eq : (x y : Charge) → x.value ≡ y.value → x ≡ y
-charge_eq x y e = λ i. record { value = e i; small = is_prop→PathP (λ k. e k ≤ 1000000) (λ k. le_prop) x.small y.small i }
+charge_eq x y e = capped_eq x y e

@@ -1,128 +1,97 @@
-use Rattle.std.specs.Prelude.{◌≡◌, ℕ, ◌+◌, ◌≤◌, min, Bool, true, false, cond, ◌⊎◌, ◌≢◌, nat_le, refl}
-use Rattle.std.proofs.Common.{sym, ap, ◌∙◌, inl, inr, ⊎_elim, arith, leb-true, leb-false}
+use Rattle.std.specs.Prelude.{◌≡◌, ℕ, cond, ◌⊎◌, ◌≢◌, nat_eq, refl, Option, None, Some}
+use Rattle.std.proofs.Common.{sym, ap, inl, inr, ⊎_elim, arith, eq-eqb, eqb-true}
 use Rattle.std.proofs.lemmas.Bool.{cases_lt}
-use Rattle.weighing.specs.declared.amount.Amount.{Amount}
-use Rattle.weighing.specs.declared.cost.Cost.{Cost}
-use Rattle.weighing.specs.declared.cost.Cost.TheVariants.{None, Of}
-use Rattle.weighing.specs.Costs.{amount, cheaper, sum, stored, loaded, costs}
+use Rattle.weighing.specs.Capping.{capped_eq, new_is, beyond}
+use Rattle.weighing.specs.Costs.{Amount, amount, cost, cheaper_amount, sum_amount, stored, loaded, costs}
+use Rattle.std.specs.Option.{option_eq}
 use Rattle.weighing.specs.Laws.{Lawful}
-use Rattle.weighing.specs.Ranges.{amount_eq}
-
-cap : (n : ℕ) → n ≤ 1000000000 → min n 1000000000 ≡ n
-cap n h = omega arith
-
-min3 : (x y z : ℕ) → min (min x y) z ≡ min x (min y z)
-min3 x y z = omega arith
-
--- cut sums: a sum that is cut early is cut late
-early : (x y c : ℕ) → min (min x c + y) c ≡ min (x + y) c
-early x y c = omega arith
-
-late : (x y c : ℕ) → min (x + min y c) c ≡ min (x + y) c
-late x y c = omega arith
-
-spread : (x y z : ℕ) → x + min y z ≡ min (x + y) (x + z)
-spread x y z = omega arith
-
-inside : (y z c : ℕ) → min (min y c) (min z c) ≡ min (min y z) c
-inside y z c = omega arith
-
-twice : (y z c : ℕ) → min (min y z) c ≡ min (min (min y c) (min z c)) c
-twice y z c = sym (ap (λ n. min n c) (inside y z c) ∙ over (min y z) c)
-  where
-    over : (n c : ℕ) → min (min n c) c ≡ min n c
-    over n c = omega arith
+use Rattle.weighing.specs.Tests.{Tells}
 
 -- `omega` decides each equation between the values
-of_eq : (x y : Amount) → x.value ≡ y.value → ◌≡◌ {A = Cost} (Of x) (Of y)
-of_eq x y e = ap Of (amount_eq x y e)
+some_eq : (x y : Amount) → x.value ≡ y.value → Some x ≡ Some y
+some_eq x y e = ap Some (capped_eq x y e)
 
-either_assoc : (a b c : Cost) → cheaper (cheaper a b) c ≡ cheaper a (cheaper b c)
+either_assoc : (a b c : Option Amount) → cheaper_amount (cheaper_amount a b) c ≡ cheaper_amount a (cheaper_amount b c)
 either_assoc None b c = refl
-either_assoc (Of x) None c = refl
-either_assoc (Of x) (Of y) None = refl
-either_assoc (Of x) (Of y) (Of z) =
-    let p : min x.value y.value ≤ 1000000000 = omega arith in
-    let q : min y.value z.value ≤ 1000000000 = omega arith in
-    of_eq _ _ (rw (cap (min x.value y.value) p, cap (min y.value z.value) q, min3 x.value y.value z.value) refl)
+either_assoc (Some x) None c = refl
+either_assoc (Some x) (Some y) None = refl
+either_assoc (Some x) (Some y) (Some z) = some_eq _ _ (omega arith)
 
-either_comm : (a b : Cost) → cheaper a b ≡ cheaper b a
+either_comm : (a b : Option Amount) → cheaper_amount a b ≡ cheaper_amount b a
 either_comm None None = refl
-either_comm None (Of y) = refl
-either_comm (Of x) None = refl
-either_comm (Of x) (Of y) = of_eq _ _ (omega arith)
+either_comm None (Some y) = refl
+either_comm (Some x) None = refl
+either_comm (Some x) (Some y) = some_eq _ _ (omega arith)
 
-both_assoc : (a b c : Cost) → sum (sum a b) c ≡ sum a (sum b c)
+both_assoc : (a b c : Option Amount) → sum_amount (sum_amount a b) c ≡ sum_amount a (sum_amount b c)
 both_assoc None b c = refl
-both_assoc (Of x) None c = refl
-both_assoc (Of x) (Of y) None = refl
-both_assoc (Of x) (Of y) (Of z) =
-    of_eq _ _ (early (x.value + y.value) z.value 1000000000 ∙ ap (λ n. min n 1000000000) (omega arith) ∙ sym (late x.value (y.value + z.value) 1000000000))
+both_assoc (Some x) None c = refl
+both_assoc (Some x) (Some y) None = refl
+both_assoc (Some x) (Some y) (Some z) = some_eq _ _ (omega arith)
 
-both_comm : (a b : Cost) → sum a b ≡ sum b a
+both_comm : (a b : Option Amount) → sum_amount a b ≡ sum_amount b a
 both_comm None None = refl
-both_comm None (Of y) = refl
-both_comm (Of x) None = refl
-both_comm (Of x) (Of y) = of_eq _ _ (omega arith)
+both_comm None (Some y) = refl
+both_comm (Some x) None = refl
+both_comm (Some x) (Some y) = some_eq _ _ (omega arith)
 
-both_free : (a : Cost) → sum (Of (amount 0)) a ≡ a
+both_free : (a : Option Amount) → sum_amount (Some (amount 0)) a ≡ a
 both_free None = refl
-both_free (Of y) = of_eq _ _ (omega arith)
+both_free (Some y) = some_eq _ _ (omega arith)
 
-distributes : (a b c : Cost) → sum a (cheaper b c) ≡ cheaper (sum a b) (sum a c)
+distributes : (a b c : Option Amount) → sum_amount a (cheaper_amount b c) ≡ cheaper_amount (sum_amount a b) (sum_amount a c)
 distributes None b c = refl
-distributes (Of x) None c = refl
-distributes (Of x) (Of y) None = refl
-distributes (Of x) (Of y) (Of z) =
-    of_eq _ _ (late x.value (min y.value z.value) 1000000000
-    ∙ ap (λ n. min n 1000000000) (spread x.value y.value z.value)
-    ∙ twice (x.value + y.value) (x.value + z.value) 1000000000)
+distributes (Some x) None c = refl
+distributes (Some x) (Some y) None = refl
+distributes (Some x) (Some y) (Some z) = some_eq _ _ (omega arith)
 
-least : (m n : ℕ) → (min m n ≡ m) ⊎ (min m n ≡ n)
-least m n = ⊎_elim (λ h. inl (omega arith)) (λ h. inr (omega arith)) (cases_lt m n)
-
-selects : (a b : Cost) → (cheaper a b ≡ a) ⊎ (cheaper a b ≡ b)
+selects : (a b : Option Amount) → (cheaper_amount a b ≡ a) ⊎ (cheaper_amount a b ≡ b)
 selects None b = inr refl
-selects (Of x) None = inl refl
-selects (Of x) (Of y) = elim (least x.value y.value) [ inl e ↦ inl (of_eq _ _ (omega arith)) | inr e ↦ inr (of_eq _ _ (omega arith)) ]
+selects (Some x) None = inl refl
+selects (Some x) (Some y) =
+    elim (cases_lt x.value y.value) [ inl h ↦ inl (some_eq _ _ (omega arith)) | inr h ↦ inr (some_eq _ _ (omega arith)) ]
 
-no_cancel : (a b : Cost) → sum a b ≡ None → (a ≡ None) ⊎ (b ≡ None)
+no_cancel : (a b : Option Amount) → sum_amount a b ≡ None → (a ≡ None) ⊎ (b ≡ None)
 no_cancel None b e = inl refl
-no_cancel (Of x) None e = inr refl
-no_cancel (Of x) (Of y) e = let z : ◌≡◌ {A = ℕ} 0 1 = cc in absurd (omega arith)
+no_cancel (Some x) None e = inr refl
+no_cancel (Some x) (Some y) e = let z : ◌≡◌ {A = ℕ} 0 1 = cc in absurd (omega arith)
 
-loaded_some : (x : Amount) (b : Bool) → nat_le x.value 1000000000 ≡ b → cond b (Of (amount x.value)) None ≡ Of x
-loaded_some x true e = of_eq _ _ (omega arith)
-loaded_some x false e = absurd (omega (arith, leb-false x.value 1000000000 e))
+each_side : {P Q R S : Type 0} → (P → R) → (Q → S) → P ⊎ Q → R ⊎ S
+each_side f g e = ⊎_elim (λ p. inl (f p)) (λ q. inr (g q)) e
 
-back : (w : Cost) → loaded (stored w) ≡ w
+back : (a : Option Amount) → loaded (stored (cost a)) ≡ cost a
 back None = refl
-back (Of x) = loaded_some x _ refl
+back (Some x) = ap cost (sym (new_is x.value (Some x) refl))
 
 -- an amount is never none
-weighed_some : (x : Amount) → Of x ≢ None
+weighed_some : (x : Amount) → Some x ≢ None
 weighed_some x e = let z : ◌≡◌ {A = ℕ} 0 1 = cc in omega arith
-
--- a number of at most the largest amount is an amount's plain value; any other number is read as none
-stray_by : (n : ℕ) (b : Bool) → nat_le n 1000000000 ≡ b → ((w : Cost) → stored w ≢ n) → cond b (Of (amount n)) None ≡ None
-stray_by n true e no_weight = absurd (no_weight (Of (amount n)) (omega (arith, leb-true n 1000000000 e)))
-stray_by n false e no_weight = refl
 
 pub cost_laws : Lawful costs
 cost_laws = record {
   semiring = record {
-    either_assoc = either_assoc;
-    either_comm = either_comm;
+    either_assoc = λ a b c. ap cost (either_assoc a.amount b.amount c.amount);
+    either_comm = λ a b. ap cost (either_comm a.amount b.amount);
     either_none = λ a. refl;
-    both_assoc = both_assoc;
-    both_comm = both_comm;
-    both_free = both_free;
+    both_assoc = λ a b c. ap cost (both_assoc a.amount b.amount c.amount);
+    both_comm = λ a b. ap cost (both_comm a.amount b.amount);
+    both_free = λ a. ap cost (both_free a.amount);
     both_none = λ a. refl;
-    distributes = distributes;
+    distributes = λ a b c. ap cost (distributes a.amount b.amount c.amount);
   };
-  no_cancel = no_cancel;
-  selects = selects;
-  some = λ c. weighed_some (amount c.value);
-  back = back;
-  stray = λ n. stray_by n _ refl;
+  no_cancel = λ a b e. each_side (ap cost) (ap cost) (no_cancel a.amount b.amount (ap (λ w. w.amount) e));
+  selects = λ a b. each_side (ap cost) (ap cost) (selects a.amount b.amount);
+  some = λ c e. weighed_some (amount c.value) (ap (λ w. w.amount) e);
+  back = λ a. back a.amount;
+  stray = λ n no_weight. ap (λ b. cost (cond b (Some (amount n)) None)) (beyond n (λ x. no_weight (cost (Some x))));
+}
+
+-- two costs are told equal exactly where their amounts are
+pub cost_decides : (a b : Option Amount) → Tells (cost a ≡ cost b) (option_eq (λ x y. nat_eq x.value y.value) a b)
+cost_decides None None = record { sound = λ _. refl; full = λ _. refl }
+cost_decides None (Some y) = record { sound = λ h. cc; full = λ e. let p : None ≡ Some y = ap (λ w. w.amount) e in cc }
+cost_decides (Some x) None = record { sound = λ h. cc; full = λ e. let p : Some x ≡ None = ap (λ w. w.amount) e in cc }
+cost_decides (Some x) (Some y) = record {
+  sound = λ h. ap cost (some_eq x y (eqb-true x.value y.value h));
+  full = λ e. let p : Some x ≡ Some y = ap (λ w. w.amount) e in let q : x ≡ y = cc in eq-eqb x.value y.value (ap (λ z. z.value) q);
 }

@@ -1,13 +1,17 @@
 -- The weighing grade: a number from 0 to 1,000,001. None is 0, free 1,000,001, a charge weighs one more than
 -- it says, either is the larger, both the smaller.
 use Rattle.std.specs.Prelude.{ℕ, ◌+◌, min, max, cond, nat_le}
-use Rattle.std.proofs.Common.{arith}
 use Rattle.weighing.specs.Laws.{Algebra}
-use Rattle.weighing.specs.declared.grade.Grade.{Grade}
+use Rattle.weighing.specs.Capping.{cut}
+use Rattle.weighing.specs.declared.capped.Capped.{Capped}
+
+-- a grade
+abbrev pub Grade : Type 0
+Grade = Capped 1000001
 
 -- the grade of a number, cut to the largest
 abbrev pub grade : ℕ → Grade
-grade n = record { value = min n 1000001; small = omega arith }
+grade n = cut 1000001 n
 
 abbrev pub higher : Grade → Grade → Grade
 higher a b = grade (max a.value b.value)

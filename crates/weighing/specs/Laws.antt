@@ -1,7 +1,7 @@
 -- What a weighing is, and what it has to show.
 use Rattle.std.specs.Prelude.{◌≡◌, ◌⊎◌, ◌≢◌}
 use Rattle.weighing.specs.Semirings.{Operations, Semiring}
-use Rattle.weighing.specs.declared.charge.Charge.{Charge}
+use Rattle.weighing.specs.Charges.{Charge}
 
 -- Weights W, and the plain values P that lie in cells and outputs in their place.
 pub record Algebra (W P : Type 0) : Type 0 where

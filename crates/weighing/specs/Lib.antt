@@ -1,11 +1,11 @@
 pub mod Semirings
 pub mod Laws
 pub mod Tests
+pub mod Capping
 pub mod Charges
 pub mod YesNos
 pub mod Costs
 pub mod Grades
 pub mod CostLaws
-pub mod Ranges
 pub mod YesNoLaws
 pub mod GradeLaws

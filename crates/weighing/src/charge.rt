@@ -1,10 +1,15 @@
-// What a permitted row is charged: a whole number from 0 to 1,000,000.
-ghost use Rattle.std.specs.Prelude.{◌≤◌};
+// Charges.
+use crate::Capped;
 
-#[derive(Clone, Copy)]
-pub struct Charge {
-    value: u32,
-    ghost small: { value ≤ 1000000 },
+const MOST: u32 = 1_000_000;
+
+// What a permitted row is charged.
+pub type Charge = Capped<MOST>;
+
+impl Charge {
+    // The largest charge.
+    pub const MOST: u32 = MOST;
+
+    // A charge of nothing.
+    pub const ZERO: Charge = Capped { value: 0 };
 }
-
-mod reads;

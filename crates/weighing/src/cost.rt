@@ -1,16 +1,9 @@
 // Cost: what the permitted rows are charged together, the least of all ways. None is dearer than any amount.
 ghost use Rattle.std.specs.Prelude.{◌≡◌};
-ghost use Rattle.weighing.specs.Costs.{amount, amount_of, costs};
-ghost use Rattle.weighing.specs.CostLaws.{cost_laws};
+ghost use Rattle.weighing.specs.Costs.{amount_of, costs};
+ghost use Rattle.weighing.specs.CostLaws.{cost_laws, cost_decides};
 
-use crate::amount::Amount;
-use crate::{Charge, Weighing};
-
-#[derive(Clone, Copy)]
-pub enum Cost {
-    None,
-    Of(Amount),
-}
+use crate::{Capped, Charge, Weighing};
 
 // The largest amount: what a larger sum is cut to.
 const MOST: u32 = 1_000_000_000;
@@ -18,13 +11,13 @@ const MOST: u32 = 1_000_000_000;
 // The plain value of none, above every amount.
 const NO_COST: u32 = u32::MAX;
 
-// The amount of a number, cut to the largest.
-fn cut(number: u32) -> Amount
-    ensures { result ≡ amount number }
-{
-    Amount {
-        value: number.min(MOST),
-    }
+// A finite cost.
+pub type Amount = Capped<MOST>;
+
+// An amount; without one, what cannot be paid.
+#[derive(Clone, Copy, Debug, PartialEq, Eq)]
+pub struct Cost {
+    amount: Option<Amount>,
 }
 
 impl Cost {
@@ -32,10 +25,7 @@ impl Cost {
     pub fn amount(self) -> Option<u32>
         ensures { result ≡ amount_of self }
     {
-        match self {
-            Cost::None => None,
-            Cost::Of(x) => Some(x.value),
-        }
+        self.amount.map(Amount::value)
     }
 }
 
@@ -46,65 +36,52 @@ impl Weighing for Cost {
 
     ghost lawful = { cost_laws };
 
+    ghost decides = { λ x y. cost_decides x.amount y.amount };
+
     fn none() -> Cost {
-        Cost::None // it cannot be paid
+        Cost { amount: None } // it cannot be paid
     }
 
     fn free() -> Cost {
-        Cost::Of(cut(0))
+        Cost {
+            amount: Some(Amount::cut(0)),
+        }
     }
 
     fn weigh(charge: Charge) -> Cost {
-        Cost::Of(cut(charge.value()))
+        Cost {
+            amount: Some(Amount::cut(charge.value())),
+        }
     }
 
     // The smaller.
     fn either(self, other: Cost) -> Cost {
-        match self {
-            Cost::None => other,
-            Cost::Of(x) => match other {
-                Cost::None => self,
-                Cost::Of(y) => Cost::Of(cut(x.value.min(y.value))),
+        match (self.amount, other.amount) {
+            (Some(x), Some(y)) => Cost {
+                amount: Some(x.min(y)),
             },
+            (None, _) => other,
+            (_, None) => self,
         }
     }
 
     // The sum, cut to the largest amount.
     fn both(self, other: Cost) -> Cost {
-        match self {
-            Cost::None => Cost::None,
-            Cost::Of(x) => match other {
-                Cost::None => Cost::None,
-                Cost::Of(y) => Cost::Of(cut(x.value + y.value)),
-            },
-        }
-    }
-
-    fn same(self, other: Cost) -> bool {
-        match self {
-            Cost::None => match other {
-                Cost::None => true,
-                Cost::Of(_) => false,
-            },
-            Cost::Of(x) => match other {
-                Cost::None => false,
-                Cost::Of(y) => x.value == y.value,
-            },
+        Cost {
+            amount: self
+                .amount
+                .zip(other.amount)
+                .map(|(x, y)| Amount::cut(x.value() + y.value())),
         }
     }
 
     fn plain(self) -> u32 {
-        match self {
-            Cost::None => NO_COST,
-            Cost::Of(x) => x.value,
-        }
+        self.amount.map_or(NO_COST, Amount::value)
     }
 
     fn from_plain(value: u32) -> Cost {
-        if value <= MOST {
-            Cost::Of(cut(value))
-        } else {
-            Cost::None // no amount's plain value
+        Cost {
+            amount: Amount::new(value),
         }
     }
 }

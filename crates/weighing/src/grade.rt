@@ -1,10 +1,51 @@
-// Grade: a number from 0 to 1,000,001. A way is as good as its lowest row, and the best way counts.
-ghost use Rattle.std.specs.Prelude.{◌≤◌};
+// Grade: a way is as good as its lowest row, and the best way counts.
+ghost use Rattle.weighing.specs.Grades.{grades};
+ghost use Rattle.weighing.specs.GradeLaws.{grade_laws, grade_decides};
 
-#[derive(Clone, Copy)]
-pub struct Grade {
-    value: u32,
-    ghost small: { value ≤ 1000001 },
+use crate::{Capped, Charge, Weighing};
+
+// The largest grade: that of what is free.
+const MOST: u32 = 1_000_001;
+
+// A number from 0 to 1,000,001.
+pub type Grade = Capped<MOST>;
+
+impl Weighing for Grade {
+    type Plain = u32;
+
+    ghost algebra = { grades };
+
+    ghost lawful = { grade_laws };
+
+    ghost decides = { λ x y. grade_decides x y };
+
+    fn none() -> Grade {
+        Grade::cut(0) // below every charge's grade
+    }
+
+    fn free() -> Grade {
+        Grade::cut(MOST)
+    }
+
+    fn weigh(charge: Charge) -> Grade {
+        Grade::cut(charge.value() + 1)
+    }
+
+    // The larger.
+    fn either(self, other: Grade) -> Grade {
+        self.max(other)
+    }
+
+    // The smaller.
+    fn both(self, other: Grade) -> Grade {
+        self.min(other)
+    }
+
+    fn plain(self) -> u32 {
+        self.value()
+    }
+
+    fn from_plain(value: u32) -> Grade {
+        Grade::new(value).unwrap_or(Grade::none())
+    }
 }
-
-mod weighs;

@@ -5,23 +5,23 @@ ghost use Rattle.std.specs.Prelude.{◌≡◌};
 ghost use Rattle.weighing.specs.Laws.{Algebra, Lawful};
 ghost use Rattle.weighing.specs.Tests.{Tells};
 
-mod amount;
+mod capped;
 mod charge;
 mod cost;
 mod grade;
 mod sums;
 mod yes_no;
 
-pub use amount::Amount;
+pub use capped::Capped;
 pub use charge::Charge;
-pub use cost::Cost;
+pub use cost::{Amount, Cost};
 pub use grade::Grade;
 pub use sums::{either_over, weigh_all};
 pub use yes_no::YesNo;
 
 // A weighing (a commutative semiring whose plus selects). Its weights are the values of the type itself; in
 // cells and outputs they lie as plain values.
-pub trait Weighing: Copy {
+pub trait Weighing: Copy + Eq {
     type Plain: Copy;
 
     ghost algebra: { Algebra Self Self.Plain };
@@ -46,10 +46,6 @@ pub trait Weighing: Copy {
     fn both(self, other: Self) -> Self
         ensures { result ≡ algebra.ops.both self other };
 
-    // Whether two weights are equal.
-    fn same(self, other: Self) -> bool
-        ensures { Tells (self ≡ other) result };
-
     // The plain value of a weight.
     fn plain(self) -> Self::Plain
         ensures { result ≡ algebra.plain self };
@@ -59,6 +55,9 @@ pub trait Weighing: Copy {
         ensures { result ≡ algebra.read value };
 
     ghost lawful: { Lawful algebra };
+
+    // `==` tells whether two weights are one.
+    ghost decides: { (x y : Self) → Tells (x ≡ y) (Self.eq x y) };
 }
 
 #[cfg(test)]

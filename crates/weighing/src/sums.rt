@@ -8,20 +8,16 @@ use crate::{Charge, Weighing};
 pub fn either_over<W: Weighing>(weights: &[W]) -> W
     ensures { result ≡ either_over W.algebra.ops weights.now }
 {
-    let mut total = W::none();
-    for weight in weights {
-        total = total.either(*weight);
-    }
-    total
+    weights
+        .iter()
+        .fold(W::none(), |total, weight| total.either(*weight))
 }
 
 // What rows with these charges weigh together; no rows are free.
 pub fn weigh_all<W: Weighing>(charges: &[Charge]) -> W
     ensures { result ≡ both_over W.algebra.ops (map W.algebra.weighed charges.now) }
 {
-    let mut weight = W::free();
-    for charge in charges {
-        weight = weight.both(W::weigh(*charge));
-    }
-    weight
+    charges
+        .iter()
+        .fold(W::free(), |weight, charge| weight.both(W::weigh(*charge)))
 }

@@ -1,10 +1,11 @@
 // Yes/no: whether it can be at all.
+ghost use Rattle.std.proofs.Common.{rules};
 ghost use Rattle.weighing.specs.YesNos.{yes_nos};
 ghost use Rattle.weighing.specs.YesNoLaws.{yes_no_laws};
 
 use crate::{Charge, Weighing};
 
-#[derive(Clone, Copy, Debug, PartialEq, Eq)]
+#[derive(Clone, Copy, Debug, PartialEq, Eq, PartialOrd, Ord)]
 pub enum YesNo {
     No,
     Yes,
@@ -16,6 +17,8 @@ impl Weighing for YesNo {
     ghost algebra = { yes_nos };
 
     ghost lawful = { yes_no_laws };
+
+    ghost decides = { Prim.search rules };
 
     fn none() -> YesNo {
         YesNo::No // it cannot be
@@ -31,32 +34,16 @@ impl Weighing for YesNo {
 
     // Or.
     fn either(self, other: YesNo) -> YesNo {
-        match self {
-            YesNo::No => other,
-            YesNo::Yes => YesNo::Yes,
-        }
+        self.max(other)
     }
 
     // And.
     fn both(self, other: YesNo) -> YesNo {
-        match self {
-            YesNo::No => YesNo::No,
-            YesNo::Yes => other,
-        }
-    }
-
-    fn same(self, other: YesNo) -> bool {
-        match (self, other) {
-            (YesNo::No, YesNo::No) | (YesNo::Yes, YesNo::Yes) => true,
-            _ => false,
-        }
+        self.min(other)
     }
 
     fn plain(self) -> bool {
-        match self {
-            YesNo::No => false,
-            YesNo::Yes => true,
-        }
+        self == YesNo::Yes
     }
 
     fn from_plain(value: bool) -> YesNo {

@@ -1,25 +1,15 @@
-use Rattle.std.proofs.Common.{refl, ap, ◌∙◌, arith}
+use Rattle.std.proofs.Common.{◌≡◌, refl, subst, rules}
+use Rattle.std.proofs.lemmas.Fn.{fold_over, slice_gives, fronts}
 use Rattle.weighing.specs.Semirings.{either_over}
-use Rattle.weighing.proofs.Gathers.{gathers_more, gathers_all}
+use Rattle.weighing.proofs.Gathers.{gathers_push}
 use Rattle.weighing.proofs.sums.either_over.Goals as goal
-
-pub loop-weight-init : goal.loop-weight-init
-loop-weight-init g c =
-    let o = g.W.Weighing.algebra.ops in
-    ap (λ w. o.either w (either_over o c.args.weights.now)) c.none-total.ensures ∙ g.met.W.Weighing.lawful.semiring.either_none (either_over o c.args.weights.now)
-
-pub loop-weight-preserved : goal.loop-weight-preserved
-unfolding either_over
-loop-weight-preserved g c =
-    let o = g.W.Weighing.algebra.ops in
-    let s = g.met.W.Weighing.lawful.semiring in
-    gathers_more o.either o.none (λ w. w) (either_over o) refl (λ w ws. refl) s.either_assoc s.either_comm s.either_none
-    c.args.weights.now c.loop-weight.weight-index c.weight-item.result c.loop-weight.total c.either-total.result (omega arith) c.weight-item.is c.either-total.ensures c.loop-weight.invariant
 
 pub returns : goal.returns
 unfolding either_over
 returns g c =
     let o = g.W.Weighing.algebra.ops in
     let s = g.met.W.Weighing.lawful.semiring in
-    gathers_all o.either o.none (λ w. w) (either_over o) refl (λ w ws. refl) s.either_assoc s.either_comm s.either_none
-    c.args.weights.now c.loop-weight.weight-index c.loop-weight.total (omega arith) c.loop-weight.invariant
+    subst (λ ws. c.fold.result ≡ either_over o ws) c.iter.ensures.rest
+    (fold_over fronts (λ y. y.now) _ (λ ys w. w ≡ either_over o ys) _
+    (λ ys a x b f' j k. let more = gathers_push o.either o.none (λ w. w) (either_over o) refl (λ w ws. refl) s.either_assoc s.either_comm ys x.now in search rules)
+    _ _ _ _ (slice_gives c.iter.result) c.none.ensures c.fold.ensures.ran)
