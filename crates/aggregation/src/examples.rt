@@ -2,30 +2,22 @@
 ghost use Rattle.aggregation.specs.Examples.{SupportIsNotEnough, EarlyDropIsWrong, OwnWeightTwiceIsWrong, CountedExample, ChosenExample};
 
 // Every permitted row may have support in each table, and yet no assignment is permitted.
-pub fn support_is_not_enough() -> u8
+pub fn support_is_not_enough()
     ensures fails { SupportIsNotEnough }
-{
-    0
-}
+{}
 
 // A lock that is dropped at the first join above it, while a table elsewhere has it, gives a wrong answer.
-pub fn early_drop_is_wrong() -> u8
+pub fn early_drop_is_wrong()
     ensures fails { EarlyDropIsWrong }
-{
-    0
-}
+{}
 
 // A table's weight that is counted inside its outside value too gives a wrong marginal.
-pub fn own_weight_twice_is_wrong() -> u8
+pub fn own_weight_twice_is_wrong()
     ensures fails { OwnWeightTwiceIsWrong }
-{
-    0
-}
+{}
 
 // The hypotheses of the theorems can be met, with weights that count and with yes and no.
-pub fn hypotheses_are_met() -> u8
+pub fn hypotheses_are_met()
     ensures counted { CountedExample }
     ensures chosen { ChosenExample }
-{
-    0
-}
+{}
