@@ -1,6 +1,7 @@
 -- Sums of numbers, and what is left when two of them go.
 use Rattle.std.proofs.Common.{◌≡◌, ℕ, zero, suc, ◌+◌, ◌<◌, ◌≤◌, cond, eqb, ltb, ◌⊎◌, sym, refl, ap, ◌∙◌, subst, ap₂, inl, inr, arith}
-use Rattle.std.proofs.lemmas.Bool.{cases_eq, cases_lt, eq-eqb, ne_eqb, lt-ltb, le-ltb}
+use Rattle.std.proofs.lemmas.Bool.Decides.{nat_tests}
+use Rattle.std.proofs.lemmas.Bool.{cases_eq, cases_lt, eq-eqb, ne_eqb, le-ltb}
 
 -- the sum of h 0, .. , h (n - 1)
 unfoldable pub sum : ℕ → (ℕ → ℕ) → ℕ
@@ -75,9 +76,7 @@ sum_one zero u = sym (ap (λ b. cond b 1 0) (le-ltb u 0 (omega arith)))
 sum_one (suc n) u = ap (λ m. m + cond (eqb u n) 1 0) (sum_one n u) ∙ go (cases_eq u n) (cases_lt u n)
   where
     go : (u ≡ n) ⊎ (u ≡ n → ⊥) → (u < n) ⊎ (n ≤ u) → cond (ltb u n) 1 0 + cond (eqb u n) 1 0 ≡ cond (ltb u (suc n)) 1 0
-    go (inl e) y = rw (eq-eqb u n e, le-ltb u n (omega arith), lt-ltb u (suc n) (omega arith)) refl
-    go (inr d) (inl p) = rw (ne_eqb u n d, lt-ltb u n p, lt-ltb u (suc n) (omega arith)) refl
-    go (inr d) (inr p) = rw (ne_eqb u n d, le-ltb u n p, le-ltb u (suc n) (omega arith)) refl
+    go x y = grind (arith, nat_tests)
 
 -- all that is not the last place is 0
 pub sum_last : (n : ℕ) (h c : ℕ → ℕ) → sum (suc n) c ≡ 1 → c n ≡ 1 → ((k : ℕ) → k < n → c k ≡ 0 → h k ≡ 0) → sum (suc n) h ≡ h n

@@ -1,6 +1,6 @@
 -- Lists of numbers as sets, and sets as lists.
 use Rattle.std.proofs.Common.{◌≡◌, ℕ, zero, suc, ◌+◌, ◌<◌, ◌≤◌, Bool, true, false, cond, ◌&&◌, ◌||◌, eqb, ltb, ◌⊎◌, List, [], ◌∷◌, ◌++◌, length, get_or, sym, refl, ap, ◌∙◌, ap₂, inl, inr, add-zero, add-one, arith}
-use mathlib.Core.Bool.{false≢true}
+use Rattle.std.proofs.Math.Bool.{or-false}
 use Rattle.std.specs.List.{range_with_len}
 use Rattle.std.proofs.lemmas.List.{length_push, get_or_push, get_or_append_left}
 use Rattle.std.proofs.lemmas.Bool.{cases_eq, cases_lt, cases_Bool, ne_eqb, eqb-true, lt-ltb, le-ltb}
@@ -8,7 +8,7 @@ use Rattle.std.proofs.lemmas.Bool.Decides.{nat_tests}
 use Rattle.aggregation.specs.Sets.{Set, all, among, size, listed, Rising, Below}
 use Rattle.aggregation.specs.Rows.{Apart}
 use Rattle.aggregation.proofs.Bools.{clash}
-use Rattle.aggregation.proofs.Marks.{or_second, or_false}
+use Rattle.aggregation.proofs.Marks.{or_second}
 use Rattle.aggregation.proofs.Rows.{first_in}
 
 -- one more number, or none
@@ -81,9 +81,7 @@ size_part zero s t h = omega arith
 size_part (suc n) s t h = go (s n) (t n) (h n) (size_part n s t h)
   where
     go : (a b : Bool) → (a ≡ true → b ≡ true) → size n s ≤ size n t → size n s + cond a 1 0 ≤ size n t + cond b 1 0
-    go true true p q = omega arith
-    go false b p q = omega arith
-    go true false p q = let z = p refl in absurd (false≢true z)
+    go a b p q = grind arith
 
 -- the rest of a rising list rises
 pub rises_rest : (x : ℕ) (xs : List ℕ) → Rising (x ∷ xs) → Rising xs
@@ -138,8 +136,8 @@ among_listed (suc n) s l =
     ∙ split (ltb l n) (eqb l n) (ltb l (suc n)) (s n) (s l) (ltb_more l n) (λ e. ap s (eqb-true l n e))
   where
     step : (b : Bool) → among (cond b (listed n s ++ n ∷ []) (listed n s)) l ≡ (among (listed n s) l || (b && eqb l n))
-    step true = among_append (listed n s) (n ∷ []) l ∙ ap (λ (b : Bool). among (listed n s) l || b) (or_false (eqb l n))
-    step false = sym (or_false (among (listed n s) l))
+    step true = among_append (listed n s) (n ∷ []) l ∙ ap (λ (b : Bool). among (listed n s) l || b) (or-false (eqb l n))
+    step false = sym (or-false (among (listed n s) l))
 
     ltb_more : (l n : ℕ) → ltb l (suc n) ≡ (ltb l n || eqb l n)
     ltb_more l n = grind (arith, nat_tests)
