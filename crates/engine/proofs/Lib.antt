@@ -18,4 +18,3 @@ pub mod Standings
 pub mod Search
 pub mod Lawful
 pub mod Running
-pub mod Parts

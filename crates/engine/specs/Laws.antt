@@ -17,18 +17,11 @@ use Rattle.engine.specs.declared.question.Question.{Question}
 use Rattle.engine.specs.declared.question.Question.TheVariants.{Total, TableSheet, LockSheet, Assignment as Assigning}
 use Rattle.engine.specs.declared.question.Answer.{Answer}
 use Rattle.engine.specs.declared.question.Answer.TheVariants.{Weight, Written}
-use Rattle.engine.specs.declared.call.Call.TheVariants.{Total as TotalCall, TableSheet as TableCall, LockSheet as LockCall, Assignment as AssignmentCall}
+use Rattle.engine.specs.declared.call.Call.TheVariants.{Ask}
 use Rattle.engine.specs.Questions.{asked_at, answered, question_refusal}
 use Rattle.aggregation.specs.declared.join.Join.{Join}
 use Rattle.engine.specs.Standing.{order_after, bars_after}
 use Rattle.engine.specs.Memory.{Memory, Leaves}
-
--- the call that asks a question
-abbrev pub asked : Question → Call
-asked Total = TotalCall
-asked (TableSheet t) = TableCall t
-asked (LockSheet l) = LockCall l
-asked Assigning = AssignmentCall
 
 -- what a list of calls leaves in the memory: each call leaves what it does as the case then stands
 pub data Ran {W P : Type 0} (a : Algebra W P) (m : Meaning) (start : Memory P) : List Call → Memory P → Type 0 where
@@ -95,6 +88,6 @@ module _ {W P : Type 0} (a : Algebra W P) (m : Meaning) (order : Option (List Jo
 pub record RanAsked {W P : Type 0} (a : Algebra W P) (m : Meaning) (calls : List Call) (q : Question) (start end : Memory P) (r : Result (Answer W) Refusal) : Type 0 where
   pub middle : Memory P
   pub ran : Ran a m start calls middle
-  pub leaves : Leaves a (barred (bars_after (shape_of m) calls) m) (order_after (shape_of m) calls) (asked q) middle end
+  pub leaves : Leaves a (barred (bars_after (shape_of m) calls) m) (order_after (shape_of m) calls) (Ask q) middle end
   pub lengths : (length middle.cells ≡ length start.cells) × (length middle.sheet ≡ length start.sheet) × (length middle.holders ≡ length start.holders)
   pub law : Law a m (order_after (shape_of m) calls) (bars_after (shape_of m) calls) q middle end r

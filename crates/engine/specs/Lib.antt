@@ -8,7 +8,6 @@ pub mod Fits
 pub mod Runs
 pub mod Operands
 pub mod Phases
-pub mod Framed
 pub mod Questions
 pub mod Standing
 pub mod Cases

@@ -1,5 +1,5 @@
 -- When a question is refused, and by which refusal: the first that applies, in the order of these definitions.
-use Rattle.std.specs.Prelude.{ℕ, cond, List, [], Some, None, Ok, Err, Option, Result, nat_lt}
+use Rattle.std.specs.Prelude.{◌≡◌, ℕ, ◌<◌, ◌≤◌, cond, List, [], Some, None, Ok, Err, Option, Result, nat_lt}
 use Rattle.book.specs.declared.refusal.Refusal.{Refusal}
 use Rattle.book.specs.declared.refusal.QuestionCause.{QuestionCause}
 use Rattle.book.specs.declared.refusal.QuestionCause.TheVariants.{NoOrder, NotInBook, FewCells, ShortOutput}
@@ -8,7 +8,8 @@ use Rattle.aggregation.specs.declared.join.Join.{Join}
 use Rattle.aggregation.specs.Nets.{Shape}
 use Rattle.aggregation.specs.Rows.{rows}
 use Rattle.order.specs.Firsts.{or_else}
-use Rattle.order.specs.Plans.{cells_needed}
+use Rattle.order.specs.declared.plan.Plan.{Plan}
+use Rattle.order.specs.Plans.{Ordered, joins_of, cells_needed}
 use Rattle.engine.specs.declared.question.Question.{Question}
 use Rattle.engine.specs.declared.question.Question.TheVariants.{Total, TableSheet, LockSheet, Assignment as Assigning}
 
@@ -74,3 +75,19 @@ module _ (s : Shape) where
   abbrev pub question_refusal : Option (List Join) → Question → ℕ → ℕ → Option Refusal
   question_refusal order q n out =
       or_else (no_order order) (or_else (named_refusal q) (or_else (few_cells (need order) n) (short_output (places q) out)))
+
+  -- a question names only a table or a lock of the book
+  abbrev pub Named : Question → Type 0
+  Named Total = Unit {0}
+  Named (TableSheet t) = t < s.tables
+  Named (LockSheet l) = l < s.locks
+  Named Assigning = Unit {0}
+
+  -- nothing refuses a question, so it is answered by this plan, for which there is room
+  pub record Ready (order : Option (List Join)) (q : Question) (n out : ℕ) (p : Plan) : Type 0 where
+    pub free : question_refusal order q n out ≡ None
+    pub in_force : order ≡ Some (joins_of p)
+    pub ordered : Ordered s p
+    pub named : Named q
+    pub cells : cells_needed s (joins_of p) ≤ n
+    pub places : places q ≤ out

@@ -7,7 +7,7 @@ use Rattle.aggregation.specs.Nets.{Shape}
 use Rattle.order.specs.Firsts.{or_else}
 use Rattle.order.specs.Refusals.{order_refusal}
 use Rattle.engine.specs.declared.call.Call.{Call}
-use Rattle.engine.specs.declared.call.Call.TheVariants.{Order, Bar, Lift, Total, TableSheet, LockSheet, Assignment}
+use Rattle.engine.specs.declared.call.Call.TheVariants.{Order, Bar, Lift, Ask}
 use Rattle.book.specs.Layers.{bar_put}
 use Rattle.engine.specs.Cases.{ordered}
 use Rattle.engine.specs.Questions.{left_by, pair_refusal}
@@ -27,20 +27,14 @@ abbrev pub order_by : Shape → Call → Option (List Join)
 order_by s (Order js) = accepted (order_refusal s js.now) js.now
 order_by s (Bar l d) = None
 order_by s (Lift l d) = None
-order_by s Total = None
-order_by s (TableSheet t) = None
-order_by s (LockSheet l) = None
-order_by s Assignment = None
+order_by s (Ask q) = None
 
 -- what a call says of a pair: a bar that it is barred, a lift that it is not, if they name it and are accepted
 abbrev pub bar_by : Shape → ℕ → ℕ → Call → Option Bool
 bar_by s l d (Order js) = None
 bar_by s l d (Bar lock holder) = cond (l == lock && d == holder) (accepted (pair_refusal s lock holder) true) None
 bar_by s l d (Lift lock holder) = cond (l == lock && d == holder) (accepted (pair_refusal s lock holder) false) None
-bar_by s l d Total = None
-bar_by s l d (TableSheet t) = None
-bar_by s l d (LockSheet k) = None
-bar_by s l d Assignment = None
+bar_by s l d (Ask q) = None
 
 -- the order in force: the last accepted one
 abbrev pub order_after : Shape → List Call → Option (List Join)
@@ -59,17 +53,11 @@ abbrev pub order_left : Shape → Option (List Join) → Call → Option (List J
 order_left s o (Order js) = ordered (order_refusal s js.now) js.now o
 order_left s o (Bar l d) = o
 order_left s o (Lift l d) = o
-order_left s o Total = o
-order_left s o (TableSheet t) = o
-order_left s o (LockSheet l) = o
-order_left s o Assignment = o
+order_left s o (Ask q) = o
 
 -- and the bars
 abbrev pub bars_left : Shape → (ℕ → ℕ → Bool) → Call → ℕ → ℕ → Bool
 bars_left s bars (Order js) = bars
 bars_left s bars (Bar l d) = left_by (pair_refusal s l d) (bar_put bars l d true) bars
 bars_left s bars (Lift l d) = left_by (pair_refusal s l d) (bar_put bars l d false) bars
-bars_left s bars Total = bars
-bars_left s bars (TableSheet t) = bars
-bars_left s bars (LockSheet l) = bars
-bars_left s bars Assignment = bars
+bars_left s bars (Ask q) = bars

@@ -1,13 +1,11 @@
-// The seven kinds of call on a case.
+// The calls on a case: an order, a bar, a lift, and the four questions.
+use crate::Question;
 use aggregation::Join;
 
 #[derive(Clone, Copy)]
 pub enum Call<'a> {
-    Total,
     Order(&'a [Join]),
     Bar(usize, usize),
     Lift(usize, usize),
-    TableSheet(usize),
-    LockSheet(usize),
-    Assignment,
+    Ask(Question),
 }

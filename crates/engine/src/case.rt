@@ -1,17 +1,16 @@
-// A case: a book with bars, a copy of its shape, and the order in force. The copy is taken at its making, since what a
-// case keeps true of its order it says of the copy; the book's charges are asked for at each question.
-ghost use Rattle.order.specs.BookShapes.{shape_in};
+// A case: a book with bars, and the order in force, which is one for the book. The book is asked for its scopes and
+// charges at each question.
+ghost use Rattle.order.specs.Shapes.{shape_of};
 ghost use Rattle.order.specs.Plans.{Standing};
 
-use book::Barred;
-use order::{BookShape, Plan};
+use book::{Barred, Book};
+use order::Plan;
 
 #[derive(Drop)]
-pub struct Case<B> {
+pub struct Case<B: Book> {
     book: Barred<B>,
-    shape: BookShape,
     plan: Option<Plan>,
-    ghost stands: { ∥ Standing (shape_in shape) plan ∥₁ },
+    ghost stands: { ∥ Standing (shape_of (B.meaning book.book)) plan ∥₁ },
 }
 
 mod acts;

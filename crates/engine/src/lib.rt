@@ -2,7 +2,7 @@
 //
 // Phases, lowest first: `step`, `steps`, `source`, `factor`, `walk` and `sums` are one aggregation, the projection of the
 // join of two factors; `projects` writes it into cells; `fills` and `spreads` are the two phases; `totals`, `sheets`,
-// `locks` and `assigns` read answers off them. `framed`, `case`, `refusals` and `runs` are what a caller meets.
+// `locks` and `assigns` read answers off them. `case`, `refusals` and `runs` are what a caller meets.
 #![tactic(auto)]
 
 mod assigns;
@@ -10,7 +10,7 @@ mod call;
 mod case;
 mod factor;
 mod fills;
-mod framed;
+mod lent;
 mod locks;
 mod projects;
 mod question;

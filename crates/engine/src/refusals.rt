@@ -1,6 +1,6 @@
 // The tests that a call makes before it does anything, each with its refusal.
 ghost use Rattle.std.specs.Prelude.{◌≡◌};
-ghost use Rattle.engine.specs.Questions.{asked_at, beyond, few_cells, short_output};
+ghost use Rattle.engine.specs.Questions.{answered, asked_at, beyond, few_cells, short_output};
 
 use book::{Layer, QuestionCause, Refusal};
 
@@ -14,34 +14,34 @@ pub(crate) fn refused(place: usize, cause: QuestionCause) -> Refusal
 }
 
 // Refuses a number that is not below `end`.
-pub(crate) fn unlisted(number: usize, end: usize) -> Option<Refusal>
-    ensures { result ≡ beyond number end }
+pub(crate) fn listed(number: usize, end: usize) -> Result<(), Refusal>
+    ensures { result ≡ answered (beyond number end) tt }
 {
     if number < end {
-        None
+        Ok(())
     } else {
-        Some(refused(number, QuestionCause::NotInBook))
+        Err(refused(number, QuestionCause::NotInBook))
     }
 }
 
 // Refuses fewer cells than needed.
-pub(crate) fn cells_short(need: usize, cells: usize) -> Option<Refusal>
-    ensures { result ≡ few_cells need cells }
+pub(crate) fn enough_cells(need: usize, cells: usize) -> Result<(), Refusal>
+    ensures { result ≡ answered (few_cells need cells) tt }
 {
     if cells < need {
-        Some(refused(need, QuestionCause::FewCells))
+        Err(refused(need, QuestionCause::FewCells))
     } else {
-        None
+        Ok(())
     }
 }
 
 // Refuses an output that is too short.
-pub(crate) fn output_short(need: usize, places: usize) -> Option<Refusal>
-    ensures { result ≡ short_output need places }
+pub(crate) fn enough_output(need: usize, places: usize) -> Result<(), Refusal>
+    ensures { result ≡ answered (short_output need places) tt }
 {
     if places < need {
-        Some(refused(need, QuestionCause::ShortOutput))
+        Err(refused(need, QuestionCause::ShortOutput))
     } else {
-        None
+        Ok(())
     }
 }

@@ -8,7 +8,7 @@ ghost use Rattle.engine.specs.Views.{book_in, shape_now, bars_now, order_now};
 ghost use Rattle.engine.specs.Questions.{answered, left_by, pair_refusal};
 
 use super::Case;
-use crate::refusals::unlisted;
+use crate::refusals::listed;
 use aggregation::Join;
 use book::{Barred, Book, Refusal};
 use order::{BookShape, check};
@@ -17,14 +17,11 @@ impl<B: Book + Drop> Case<B> {
     // A case of a book, with no bars and no order.
     pub fn new(book: B) -> Case<B>
         ensures book { book_in result ≡ book }
-        ensures shape { shape_now result ≡ shape_of (B.Book.meaning book) }
         ensures bars { bars_now result ≡ (λ lock holder. false) }
         ensures order { order_now result ≡ None }
     {
-        let shape = BookShape::of(&book);
         Case {
             book: Barred::new(book),
-            shape,
             plan: None,
         }
     }
@@ -34,15 +31,10 @@ impl<B: Book + Drop> Case<B> {
         ensures value { result ≡ answered (order_refusal (shape_now self.old) joins.now) tt }
         ensures order { order_now self.new ≡ ordered (order_refusal (shape_now self.old) joins.now) joins.now (order_now self.old) }
         ensures bars { bars_now self.new ≡ bars_now self.old }
-        ensures same { (book_in self.new ≡ book_in self.old) × (shape_now self.new ≡ shape_now self.old) }
+        ensures same { book_in self.new ≡ book_in self.old }
     {
-        match check(&self.shape, joins) {
-            Ok(plan) => {
-                self.plan = Some(plan);
-                Ok(())
-            }
-            Err(refusal) => Err(refusal),
-        }
+        self.plan = Some(check(&BookShape::of(&self.book.book), joins)?);
+        Ok(())
     }
 
     // Bars a holder from a lock, and answers whether that changed anything.
@@ -50,7 +42,7 @@ impl<B: Book + Drop> Case<B> {
         ensures value { result ≡ answered (pair_refusal (shape_now self.old) lock holder) (bar_changes (bars_now self.old) lock holder true) }
         ensures bars { bars_now self.new ≡ left_by (pair_refusal (shape_now self.old) lock holder) (bar_put (bars_now self.old) lock holder true) (bars_now self.old) }
         ensures order { order_now self.new ≡ order_now self.old }
-        ensures same { (book_in self.new ≡ book_in self.old) × (shape_now self.new ≡ shape_now self.old) }
+        ensures same { book_in self.new ≡ book_in self.old }
     {
         self.set_bar(lock, holder, true)
     }
@@ -60,7 +52,7 @@ impl<B: Book + Drop> Case<B> {
         ensures value { result ≡ answered (pair_refusal (shape_now self.old) lock holder) (bar_changes (bars_now self.old) lock holder false) }
         ensures bars { bars_now self.new ≡ left_by (pair_refusal (shape_now self.old) lock holder) (bar_put (bars_now self.old) lock holder false) (bars_now self.old) }
         ensures order { order_now self.new ≡ order_now self.old }
-        ensures same { (book_in self.new ≡ book_in self.old) × (shape_now self.new ≡ shape_now self.old) }
+        ensures same { book_in self.new ≡ book_in self.old }
     {
         self.set_bar(lock, holder, false)
     }
@@ -70,11 +62,10 @@ impl<B: Book + Drop> Case<B> {
         ensures value { result ≡ answered (pair_refusal (shape_now self.old) lock holder) (bar_changes (bars_now self.old) lock holder barred) }
         ensures bars { bars_now self.new ≡ left_by (pair_refusal (shape_now self.old) lock holder) (bar_put (bars_now self.old) lock holder barred) (bars_now self.old) }
         ensures order { order_now self.new ≡ order_now self.old }
-        ensures same { (book_in self.new ≡ book_in self.old) × (shape_now self.new ≡ shape_now self.old) }
+        ensures same { book_in self.new ≡ book_in self.old }
     {
-        match unlisted(lock, self.shape.locks()).or(unlisted(holder, self.shape.holders())) {
-            Some(refusal) => Err(refusal),
-            None => Ok(self.book.set(lock, holder, barred)),
-        }
+        listed(lock, self.book.locks())?;
+        listed(holder, self.book.holders())?;
+        Ok(self.book.set(lock, holder, barred))
     }
 }

@@ -27,19 +27,15 @@ impl<B: Book + Drop> Case<B> {
     pub fn order_len(&self) -> Option<usize>
         ensures { result ≡ order_length (order_now self.now) }
     {
-        match self.plan {
-            Some(plan) => Some(plan.len()),
-            None => None,
-        }
+        self.plan.as_ref().map(|plan| plan.len())
     }
 
     // Join i of the order in force; beyond the last, and where none is, node 0 twice.
     pub fn join(&self, i: usize) -> Join
         ensures { result ≡ join_at (joins_in (order_now self.now)) i }
     {
-        match self.plan {
-            Some(plan) => plan.join(i),
-            None => Join { left: 0, right: 0 },
-        }
+        self.plan
+            .as_ref()
+            .map_or(Join { left: 0, right: 0 }, |plan| plan.join(i))
     }
 }
