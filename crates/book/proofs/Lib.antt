@@ -2,3 +2,4 @@ pub mod Joins
 pub mod Bars
 pub mod Numbers
 pub mod Touches
+pub mod Shaped

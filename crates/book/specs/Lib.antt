@@ -1,6 +1,8 @@
 pub mod Lists
 pub mod Scopes
 pub mod Books
+pub mod Shapes
+pub mod BookShapes
 pub mod Rows
 pub mod Layers
 pub mod Ranges

@@ -1,5 +1,6 @@
 -- The number, the layer and the place of each refusal.
-use Rattle.std.specs.Prelude.{ℕ, List, codes}
+use Rattle.std.specs.Prelude.{ℕ, List, ◌++◌, codes}
+use Rattle.std.specs.Fmt.{decimal}
 use Rattle.book.specs.declared.refusal.Refusal.{Refusal}
 use Rattle.book.specs.declared.refusal.Layer.{Layer}
 use Rattle.book.specs.declared.refusal.Layer.TheVariants.{Line, Record, Book, Order, Question}
@@ -72,6 +73,10 @@ layer_word (Question p c) = codes "question"
 
 abbrev pub word : Refusal → List ℕ
 word r = layer_word r.layer
+
+-- as a program prints it
+abbrev pub printed : Refusal → List ℕ
+printed r = codes "refusal=" ++ decimal (number r) ++ codes "," ++ word r ++ codes "," ++ decimal (place r)
 
 -- two books do not go together
 abbrev pub apart : Refusal

@@ -48,18 +48,14 @@ impl<B> Barred<B> {
 fn bar(bars: &[[bool; 16]; 64], lock: usize, holder: usize) -> bool
     ensures { result ≡ bar_at bars.now lock holder }
 {
-    if lock < 64 {
-        mark(&bars[lock], holder)
-    } else {
-        false
-    }
+    bars.get(lock).map_or(false, |marks| mark(marks, holder))
 }
 
 // What the bars of a lock say of a holder.
 fn mark(marks: &[bool; 16], holder: usize) -> bool
     ensures { result ≡ slice_index_or marks.now holder false }
 {
-    if holder < 16 { marks[holder] } else { false }
+    marks.get(holder).map_or(false, |mark| *mark)
 }
 
 // Sets a pair among the bars, and answers whether that changed them.
@@ -67,6 +63,7 @@ fn set_bar(bars: &mut [[bool; 16]; 64], lock: usize, holder: usize, barred: bool
     ensures value { result ≡ bar_changes (bar_at bars.old) lock holder barred }
     ensures after { bar_at bars.new ≡ bar_put (bar_at bars.old) lock holder barred }
 {
+    // By index: the library does not say what `get_mut` leaves in the other elements.
     if lock < 64 {
         set_mark(&mut bars[lock], holder, barred)
     } else {
@@ -80,6 +77,7 @@ fn set_mark(marks: &mut [bool; 16], holder: usize, barred: bool) -> bool
     ensures value { result ≡ (nat_lt holder 16 && not (beq (slice_index_or marks.old holder false) barred)) }
     ensures after { marks.new ≡ slice_set marks.old holder barred }
 {
+    // By index, for the same reason.
     if holder >= 16 {
         return false;
     }
@@ -95,11 +93,11 @@ fn touched(bars: &[[bool; 16]; 64], holders: usize, scope: &Scope, row: usize) -
 {
     let mut left = row;
     let mut place = holders.pow(scope.len() as u32);
-    for i in 0..scope.len() {
+    for lock in scope.as_slice() {
         place /= holders;
         let digit = left / place;
         left %= place;
-        if bar(bars, scope.lock(i), digit) {
+        if bar(bars, *lock, digit) {
             return true;
         }
     }

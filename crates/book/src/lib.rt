@@ -13,12 +13,14 @@ mod laws;
 mod lent;
 mod refusal;
 mod scope;
+mod shape;
 
 pub use barred::Barred;
 pub use joined::{Joined, go_together};
 pub use laws::{joined_tables, rows_barred, rows_numbered};
 pub use refusal::{BookCause, Layer, LineCause, OrderCause, QuestionCause, RecordCause, Refusal};
 pub use scope::Scope;
+pub use shape::BookShape;
 
 // A book (a network of table constraints) is anything that answers five questions: how many locks (variables),
 // holders (values) and tables (constraints) there are, which locks a table is about, and what a row (a tuple

@@ -21,55 +21,55 @@ pub enum Layer {
 #[derive(Clone, Copy, Debug, PartialEq, Eq)]
 pub enum LineCause {
     // The text has more than 65,535 bytes.
-    TooLong,
+    TooLong = 1,
     // A line has none of the eight forms, or lacks its end byte.
-    NoForm,
+    NoForm = 2,
 }
 
 // Why lines are no case.
 #[derive(Clone, Copy, Debug, PartialEq, Eq)]
 pub enum RecordCause {
     // A line's kind, or the end of the text, may not follow the kind before it.
-    Misplaced,
+    Misplaced = 3,
     // A list, the tables or the joins are too many.
-    TooMany,
+    TooMany = 4,
     // A name stands twice in a list, or a mentioned name is not listed.
-    WrongName,
+    WrongName = 5,
     // Scope locks, rows or bars do not rise, or a row has not a holder for each lock.
-    NotRising,
+    NotRising = 6,
     // The row list is full, or holds another row.
-    NoRoom,
+    NoRoom = 7,
 }
 
 // Why two books are no book.
 #[derive(Clone, Copy, Debug, PartialEq, Eq)]
 pub enum BookCause {
     // The two books do not go together.
-    Apart,
+    Apart = 8,
 }
 
 // Why joins are no order.
 #[derive(Clone, Copy, Debug, PartialEq, Eq)]
 pub enum OrderCause {
     // A lock is in no table.
-    BareLock,
+    BareLock = 9,
     // The joins are not one fewer than the tables, or one names an unfit node.
-    Unfit,
+    Unfit = 10,
     // A joint scope has over six locks.
-    TooWide,
+    TooWide = 11,
 }
 
 // Why a question has no answer.
 #[derive(Clone, Copy, Debug, PartialEq, Eq)]
 pub enum QuestionCause {
     // No order has been set.
-    NoOrder,
+    NoOrder = 12,
     // A lock, holder or table is not in the book, or a name list has another length than the book.
-    NotInBook,
+    NotInBook = 13,
     // Fewer cells are handed in than needed.
-    FewCells,
+    FewCells = 14,
     // The output is too short.
-    ShortOutput,
+    ShortOutput = 15,
     // The total is none, and an assignment was wanted.
-    NoAssignment,
+    NoAssignment = 16,
 }

@@ -2,7 +2,8 @@
 ghost use Rattle.std.specs.Prelude.{◌≤◌, take};
 ghost use Rattle.book.specs.Lists.{Rising, Below};
 
-#[derive(Clone, Copy)]
+// An array with its length beside it: a book's scopes are copied and lie in fixed memory, and ArrayVec is not Copy.
+#[derive(Clone, Copy, Debug)]
 pub struct Scope {
     len: usize,
     locks: [usize; 6],

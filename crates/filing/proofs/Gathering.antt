@@ -31,7 +31,7 @@ use Rattle.filing.specs.Resolving.{names_of}
 use Rattle.filing.specs.Rules.{by_rules}
 use Rattle.filing.specs.Written.{listed, written}
 use Rattle.filing.specs.Scanning.{standing_at, Opened, Ended, Halted, Stepped}
-use Rattle.filing.specs.Scopes.{Fit}
+use Rattle.book.specs.Shapes.{Fit}
 use Rattle.filing.specs.Standing.{Standing, at_start, after, after_all, all_rows}
 use Rattle.filing.proofs.Contents.{gather_push, SameContents, same_contents}
 use Rattle.filing.proofs.Filling.{Sofar, start, onward, done, refused}

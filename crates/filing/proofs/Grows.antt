@@ -4,12 +4,13 @@ use Rattle.std.proofs.lemmas.Bool.{lt-ltb, and_from, cond-true}
 use Rattle.weighing.specs.Charges.{Charge}
 use Rattle.book.specs.Scopes.{named}
 use Rattle.book.specs.declared.scope.Scope.{Scope}
-use Rattle.filing.specs.declared.shape.Shape.{Shape}
-use Rattle.filing.specs.Scopes.{scope_at}
-use Rattle.filing.specs.Shapes.{has_row, over_shape, OneMore, Grown}
-use Rattle.filing.proofs.Shaped.{scope_set, scope_other}
+use Rattle.book.specs.declared.shape.BookShape.{BookShape}
+use Rattle.book.specs.Shapes.{scope_at}
+use Rattle.book.specs.BookShapes.{has_row, over_shape, OneMore}
+use Rattle.filing.specs.Shapes.{Grown}
+use Rattle.book.proofs.Shaped.{scope_set, scope_other}
 
-module _ (s n : Shape) (scope : Scope) (m : OneMore s n scope) where
+module _ (s n : BookShape) (scope : Scope) (m : OneMore s n scope) where
   old_scope : (t : ℕ) → t < s.tables → scope_at n.scopes t ≡ scope_at s.scopes t
   old_scope t h = ap (λ ss. scope_at ss t) m.scopes ∙ scope_other s.scopes s.tables scope t (λ e. omega arith)
 

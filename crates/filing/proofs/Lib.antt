@@ -1,4 +1,3 @@
-pub mod Shaped
 pub mod Grows
 pub mod Listings
 pub mod Ruled

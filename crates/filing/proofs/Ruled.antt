@@ -11,8 +11,8 @@ use Rattle.book.proofs.Numbers.{below_cons, rows_numbered}
 use Rattle.filing.specs.declared.rule.RuleForm.{RuleForm}
 use Rattle.filing.specs.declared.rule.RuleForm.TheVariants.{Differ, Same}
 use Rattle.filing.specs.declared.rule.Rule.{Rule}
-use Rattle.filing.specs.Scopes.{scope_at}
-use Rattle.filing.specs.Shapes.{has_row}
+use Rattle.book.specs.Shapes.{scope_at}
+use Rattle.book.specs.BookShapes.{has_row}
 use Rattle.filing.specs.Rules.{permits, Permits, ruled, rule_at, by_rules, RowsRuled}
 
 pub rule_read : (rs : List Rule) (t : ℕ) (r : Rule) (H row : ℕ) → t < length rs → rule_at rs t H row ≡ ruled (get_or rs t r) H row

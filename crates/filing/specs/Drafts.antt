@@ -11,7 +11,7 @@ use Rattle.filing.specs.declared.record.RowRecord.{RowRecord}
 use Rattle.filing.specs.declared.rule.RuleForm.TheVariants as form
 use Rattle.filing.specs.Contents.{Ruling, ruling, Pair, barred_in_turn, BookOf, ruled_by}
 use Rattle.filing.specs.Rules.{by_rules}
-use Rattle.filing.specs.Scopes.{Fit}
+use Rattle.book.specs.Shapes.{Fit}
 use Rattle.filing.specs.Written.{listed, written}
 
 -- the contents of an entry

@@ -1,4 +1,3 @@
-pub mod Scopes
 pub mod Shapes
 pub mod Written
 pub mod Rules

@@ -7,7 +7,7 @@ use Rattle.filing.specs.declared.rule.RuleForm.{RuleForm}
 use Rattle.filing.specs.declared.rule.RuleForm.TheVariants.{Differ, Same}
 use Rattle.filing.specs.declared.rule.Rule.{Rule}
 use Rattle.filing.specs.declared.rule.RuleBook.{RuleBook}
-use Rattle.filing.specs.Shapes.{over_shape}
+use Rattle.book.specs.BookShapes.{over_shape}
 
 -- whether a form permits two holders
 abbrev pub permits : RuleForm → ℕ → ℕ → Bool

@@ -1,50 +1,7 @@
--- A book by its shape: its numbers and scopes, and what its rows are charged.
-use Rattle.std.specs.Prelude.{◌≡◌, ℕ, ◌+◌, ◌^◌, ◌<◌, Bool, cond, ◌&&◌, List, length, None, Option, nat_lt, slice_set}
-use Rattle.std.proofs.lemmas.Bool.{le-ltb, and_left, and_right, cond-false}
+-- A book that a table was added to.
+use Rattle.std.specs.Prelude.{◌≡◌, ℕ, ◌+◌, ◌^◌, ◌<◌, List, length, Option}
 use Rattle.weighing.specs.Charges.{Charge}
-use Rattle.book.specs.Books.{Meaning, Ranged}
-use Rattle.book.specs.declared.scope.Scope.{Scope}
-use Rattle.filing.specs.Scopes.{scope_at}
-use Rattle.filing.specs.declared.shape.Shape.{Shape}
-
--- there is such a table and it has such a row
-abbrev pub has_row : Shape → ℕ → ℕ → Bool
-has_row s t row = nat_lt t s.tables && nat_lt row (s.holders ^ length (scope_at s.scopes t))
-
--- a row that the shape has is charged as said; any other is absent
-abbrev pub over_shape : Shape → (ℕ → ℕ → Option Charge) → Meaning
-over_shape s charge = record {
-  locks = s.locks;
-  holders = s.holders;
-  tables = s.tables;
-  scope = scope_at s.scopes;
-  charge = λ t row. cond (has_row s t row) (charge t row) None;
-}
-
--- such a book keeps to the ranges
-pub shape_ranged : (s : Shape) (charge : ℕ → ℕ → Option Charge) → Ranged (over_shape s charge)
-shape_ranged s charge = record {
-  some_lock = s.some_lock;
-  few_locks = s.few_locks;
-  some_holder = s.some_holder;
-  few_holders = s.few_holders;
-  few_tables = s.few_tables;
-  some_scope = s.filled;
-  short_scope = s.short;
-  rising = s.rising;
-  below = s.below;
-  no_scope = s.beyond;
-  no_table = λ t row h. cond-false _ (charge t row) None (and_left (nat_lt t s.tables) _ (le-ltb t s.tables h));
-  no_row = λ t row h. cond-false _ (charge t row) None (and_right (nat_lt t s.tables) _ (le-ltb row (s.holders ^ length (scope_at s.scopes t)) h));
-}
-
--- one shape is another with one more table
-pub record OneMore (s n : Shape) (scope : Scope) : Type 0 where
-  pub locks : n.locks ≡ s.locks
-  pub holders : n.holders ≡ s.holders
-  pub tables : n.tables ≡ s.tables + 1
-  pub scopes : n.scopes ≡ slice_set s.scopes s.tables scope
-  pub room : s.tables < length s.scopes
+use Rattle.book.specs.Books.{Meaning}
 
 -- A book that a table over the locks xs, charged as said, was added to: its other tables are as they were.
 pub record Grown (m n : Meaning) (xs : List ℕ) (charge : ℕ → Option Charge) : Type 0 where

@@ -4,7 +4,7 @@ use Rattle.weighing.specs.Charges.{Charge}
 use Rattle.book.specs.Books.{Meaning}
 use Rattle.filing.specs.declared.record.RowRecord.{RowRecord}
 use Rattle.filing.specs.declared.written.WrittenBook.{WrittenBook}
-use Rattle.filing.specs.Shapes.{over_shape}
+use Rattle.book.specs.BookShapes.{over_shape}
 
 -- the charge of the first record of a row; a row that is not listed is absent
 unfoldable pub listed : List RowRecord → ℕ → ℕ → Option Charge

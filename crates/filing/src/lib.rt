@@ -16,7 +16,6 @@ mod resolve;
 mod rule;
 mod scan;
 mod second;
-mod shape;
 #[cfg(test)]
 mod tests;
 mod verdict;

@@ -1,8 +1,8 @@
 // The rule book: no rows are stored; each table is a rule on two locks that says which rows are permitted.
 ghost use Rattle.std.specs.Prelude.{◌≡◌, ℕ, ◌<◌, length};
-ghost use Rattle.filing.specs.Scopes.{scope_at};
+ghost use Rattle.book.specs.Shapes.{scope_at};
 
-use crate::shape::Shape;
+use book::BookShape;
 use weighing::Charge;
 
 // Which pairs of holders a rule permits.
@@ -21,9 +21,10 @@ pub(crate) struct Rule {
     pub(crate) charge: Charge,
 }
 
+// The rules lie beside the shape, and not with its scopes, so that the shape is the one type that every book has.
 #[derive(Clone, Copy)]
 pub struct RuleBook {
-    shape: Shape,
+    shape: BookShape,
     rules: [Rule; 64],
     ghost pairs: { (t : ℕ) → t < shape.tables → length (scope_at shape.scopes t) ≡ 2 },
 }

@@ -1,11 +1,11 @@
 // The written book: its permitted rows are those of a row list that the caller lends.
 use crate::RowRecord;
-use crate::shape::Shape;
+use book::BookShape;
 
 #[derive(Clone, Copy)]
 pub struct WrittenBook<'a> {
     rows: &'a [RowRecord],
-    shape: Shape,
+    shape: BookShape,
 }
 
 mod reads;

@@ -8,9 +8,9 @@ use Rattle.aggregation.specs.Trees.{Tree, node, kept}
 use Rattle.aggregation.specs.Orders.{left_of, right_of, joint, unfit, wide}
 use Rattle.aggregation.proofs.Grown.{forest_new}
 use Rattle.aggregation.proofs.Listed.{size_part}
-use Rattle.order.specs.declared.marks.Marks.{Marks}
+use Rattle.order.specs.declared.nodes.Node.{Node}
 use Rattle.order.specs.Known.{Known}
-use Rattle.order.specs.Marked.{marked_at}
+use Rattle.order.specs.Marked.{keeps_at}
 use Rattle.order.specs.Refusals.{fault}
 use Rattle.order.proofs.FirstOf.{some_not_none}
 
@@ -35,5 +35,5 @@ kept_few s js i e =
     omega arith
 
 -- what the new node keeps
-pub new_keeps : (s : Shape) (js : List Join) (i at : ℕ) (us hs : List Marks) → at ≡ s.tables + i → Known s js (i + 1) us hs → marked_at hs at ≡ kept s (node (left_of s js i) (right_of s js i))
-new_keeps s js i at us hs z k = ap (marked_at hs) z ∙ k.keeps (s.tables + i) (omega arith) ∙ ap (kept s) (forest_new s js i)
+pub new_keeps : (s : Shape) (js : List Join) (i at : ℕ) (ns : List Node) → at ≡ s.tables + i → Known s js (i + 1) ns → keeps_at ns at ≡ kept s (node (left_of s js i) (right_of s js i))
+new_keeps s js i at ns z k = ap (keeps_at ns) z ∙ k.keeps (s.tables + i) (omega arith) ∙ ap (kept s) (forest_new s js i)

@@ -4,7 +4,6 @@ pub mod Masked
 pub mod Listed
 pub mod KnownNodes
 pub mod FirstOf
-pub mod Powers
 pub mod FitJoins
 pub mod PlanRows
 pub mod AboveOf
@@ -13,3 +12,4 @@ pub mod AcceptedOrders
 pub mod OneAbove
 pub mod CarriedPlans
 pub mod StandingPlans
+pub mod Chains

@@ -1,6 +1,5 @@
 -- The list of a set's numbers, as a loop makes it.
-use Rattle.std.proofs.Common.{◌≡◌, ℕ, ◌+◌, ◌<◌, ◌≤◌, true, false, List, [], ◌∷◌, ◌++◌, length, take, set, sym, refl, ap, ◌∙◌, subst, add-one, arith}
-use Rattle.std.proofs.lemmas.List.{take_more_set}
+use Rattle.std.proofs.Common.{◌≡◌, ℕ, ◌+◌, ◌<◌, ◌≤◌, true, false, List, [], ◌∷◌, ◌++◌, sym, refl, subst, add-one, arith}
 use Rattle.aggregation.specs.Sets.{Set, size, listed, Rising, Below}
 use Rattle.aggregation.proofs.Listed.{listed_below, listed_rising, size_up}
 use Rattle.order.proofs.Masked.{size_more}
@@ -10,7 +9,7 @@ pub listed_none : (s : Set) → listed 0 s ≡ []
 unfolding listed
 listed_none s = refl
 
-listed_with : (n : ℕ) (s : Set) → s n ≡ true → listed (n + 1) s ≡ listed n s ++ n ∷ []
+pub listed_with : (n : ℕ) (s : Set) → s n ≡ true → listed (n + 1) s ≡ listed n s ++ n ∷ []
 unfolding listed
 listed_with n s h = rw (add-one, h) refl
 
@@ -21,10 +20,6 @@ listed_without n s h = rw (add-one, h) refl
 -- there is room for one more
 pub room : (n k : ℕ) (s : Set) (c : ℕ) → k < n → s k ≡ true → size n s ≤ c → size k s < c
 room n k s c h m l = let a = size_more k s in let b = size_up (k + 1) n s (omega arith) in let d : size (k + 1) s ≡ size k s + 1 = rw m at a in omega arith
-
--- one step of the loop that lists a set
-pub listing_more : (xs : List ℕ) (c k : ℕ) (s : Set) → c < length xs → take c xs ≡ listed k s → s k ≡ true → take (c + 1) (set xs c k) ≡ listed (k + 1) s
-listing_more xs c k s h e m = take_more_set xs c k h ∙ ap (λ ys. ys ++ k ∷ []) e ∙ sym (listed_with k s m)
 
 -- what equals such a list is below the bound, and rises
 pub listing_below : (xs : List ℕ) (k n : ℕ) (s : Set) → xs ≡ listed k s → k ≤ n → Below n xs

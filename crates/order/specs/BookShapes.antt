@@ -1,6 +1,6 @@
 use Rattle.aggregation.specs.Nets.{Shape}
-use Rattle.order.specs.declared.shape.BookShape.{BookShape}
-use Rattle.order.specs.Shapes.{scope_at}
+use Rattle.book.specs.declared.shape.BookShape.{BookShape}
+use Rattle.book.specs.Shapes.{scope_at}
 
 -- the shape that a copy holds
 abbrev pub shape_in : BookShape → Shape

@@ -1,18 +1,12 @@
 -- The shape of a book: its numbers and scopes, without the charges.
-use Rattle.std.specs.Prelude.{◌≡◌, ℕ, ◌<◌, ◌≤◌, List, [], map, length, slice_index_or}
+use Rattle.std.specs.Prelude.{◌≡◌, ℕ, ◌<◌, ◌≤◌, [], length}
 use Rattle.book.specs.Books.{Meaning}
 use Rattle.book.specs.Lists.{Rising, Below}
-use Rattle.book.specs.Scopes.{named}
-use Rattle.book.specs.declared.scope.Scope.{Scope}
 use Rattle.aggregation.specs.Nets.{Shape}
 
 -- the shape of what a book means
 abbrev pub shape_of : Meaning → Shape
 shape_of m = record { locks = m.locks; holders = m.holders; tables = m.tables; scope = m.scope }
-
--- the locks that the scope at a place names; none beyond the last
-abbrev pub scope_at : List Scope → ℕ → List ℕ
-scope_at ss t = slice_index_or (map named ss) t []
 
 -- the ranges that every book's shape keeps to
 pub record Bounded (s : Shape) : Type 0 where

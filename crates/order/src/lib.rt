@@ -6,14 +6,13 @@ mod marks;
 mod nodes;
 mod part;
 mod plan;
-mod shape;
 mod side;
 mod theorems;
 
+pub use book::BookShape;
 pub use checks::check;
 pub use part::Part;
 pub use plan::Plan;
-pub use shape::BookShape;
 pub use side::{Above, Side};
 pub use theorems::{
     accepted_exactly_holds, copies_bounded_holds, one_above_holds, order_examples_hold,

@@ -4,6 +4,7 @@ ghost use Rattle.book.specs.Scopes.{named};
 ghost use Rattle.aggregation.specs.Sets.{◌∪◌, ◌∩◌, among, size, listed};
 ghost use Rattle.order.specs.Marked.{marked};
 
+use arrayvec::ArrayVec;
 use book::Scope;
 
 #[derive(Clone, Copy)]
@@ -34,8 +35,8 @@ impl Marks {
         ensures { marked result ≡ among (named scope.now) }
     {
         let mut on = [false; 64];
-        for i in 0..scope.len() {
-            on[scope.lock(i)] = true;
+        for lock in scope.as_slice() {
+            on[*lock] = true;
         }
         Marks { on }
     }
@@ -44,29 +45,25 @@ impl Marks {
     pub(crate) fn holds(&self, k: usize) -> bool
         ensures { result ≡ marked self.now k }
     {
-        k < 64 && self.on[k]
+        self.on.get(k).map_or(false, |on| *on)
     }
 
     // The numbers of either set.
     pub(crate) fn or(&self, other: &Marks) -> Marks
         ensures { marked result ≡ marked self.now ∪ marked other.now }
     {
-        let mut on = [false; 64];
-        for k in 0..64 {
-            on[k] = self.on[k] | other.on[k];
+        Marks {
+            on: std::array::from_fn(|k| self.on[k] | other.on[k]),
         }
-        Marks { on }
     }
 
     // The numbers of both sets.
     pub(crate) fn and(&self, other: &Marks) -> Marks
         ensures { marked result ≡ marked self.now ∩ marked other.now }
     {
-        let mut on = [false; 64];
-        for k in 0..64 {
-            on[k] = self.on[k] & other.on[k];
+        Marks {
+            on: std::array::from_fn(|k| self.on[k] & other.on[k]),
         }
-        Marks { on }
     }
 
     // How many numbers below n are in the set.
@@ -74,13 +71,7 @@ impl Marks {
         requires { n ≤ 64 }
         ensures { result ≡ size n (marked self.now) }
     {
-        let mut count = 0;
-        for k in 0..n {
-            if self.on[k] {
-                count += 1;
-            }
-        }
-        count
+        self.on[..n].iter().filter(|on| **on).count()
     }
 
     // The numbers below n, rising, where they are at most six.
@@ -89,17 +80,12 @@ impl Marks {
         requires few { size n (marked self.now) ≤ 6 }
         ensures { named result ≡ listed n (marked self.now) }
     {
-        let mut locks = [0; 6];
-        let mut len = 0;
+        let mut locks: ArrayVec<usize, 6> = ArrayVec::new();
         for k in 0..n {
             if self.on[k] {
-                locks[len] = k;
-                len += 1;
+                locks.push(k);
             }
         }
-        match Scope::of(&locks[0..len]) {
-            Some(scope) => scope,
-            None => unreachable(),
-        }
+        Scope::of(locks.as_slice()).unwrap()
     }
 }

@@ -1,4 +1,4 @@
-// What the check knows of each node: the tables beneath it, and the locks that it keeps.
+// What the check knows of each node.
 ghost use Rattle.std.specs.Prelude.{◌≡◌, ◌+◌, ◌<◌, List};
 ghost use Rattle.aggregation.specs.Sets.{un};
 ghost use Rattle.aggregation.specs.Nets.{has};
@@ -8,13 +8,19 @@ ghost use Rattle.order.specs.Marked.{marked};
 ghost use Rattle.order.specs.Known.{Known};
 
 use crate::marks::Marks;
-use crate::shape::BookShape;
 use aggregation::Join;
+use book::BookShape;
+
+// The tables beneath a node, and the locks that it keeps.
+#[derive(Clone, Copy)]
+pub(crate) struct Node {
+    pub(crate) under: Marks,
+    pub(crate) keeps: Marks,
+}
 
 #[derive(Clone, Copy)]
 pub(crate) struct Nodes {
-    pub(crate) under: [Marks; 128],
-    pub(crate) keeps: [Marks; 128],
+    pub(crate) at: [Node; 128],
 }
 
 // The locks that occur in a table that is not marked.
@@ -33,15 +39,20 @@ pub(crate) fn outside(shape: &BookShape, under: &Marks) -> Marks
 impl Nodes {
     // The tables alone.
     pub(crate) fn of(shape: &BookShape) -> Nodes
-        ensures { (js : List Join) → Known (shape_in shape.now) js 0 result.under result.keeps }
+        ensures { (js : List Join) → Known (shape_in shape.now) js 0 result.at }
     {
-        let mut under = [Marks::none(); 128];
-        let mut keeps = [Marks::none(); 128];
+        let none = Node {
+            under: Marks::none(),
+            keeps: Marks::none(),
+        };
+        let mut at = [none; 128];
         for t in 0..shape.tables() {
-            under[t] = Marks::one(t);
-            keeps[t] = Marks::of(&shape.scope(t));
+            at[t] = Node {
+                under: Marks::one(t),
+                keeps: Marks::of(&shape.scope(t)),
+            };
         }
-        Nodes { under, keeps }
+        Nodes { at }
     }
 
     // One join more: it keeps what its sides keep and a table not beneath it has.
@@ -49,17 +60,13 @@ impl Nodes {
         requires left { join.left < (shape_in shape.now).tables + i }
         requires right { join.right < (shape_in shape.now).tables + i }
         requires few { i < 64 }
-        ensures { (js : List Join) → join_at js i ≡ join → Known (shape_in shape.now) js i self.old.under self.old.keeps → Known (shape_in shape.now) js (i + 1) self.new.under self.new.keeps }
+        ensures { (js : List Join) → join_at js i ≡ join → Known (shape_in shape.now) js i self.old.at → Known (shape_in shape.now) js (i + 1) self.new.at }
     {
-        let left = self.under[join.left];
-        let right = self.under[join.right];
-        let under = left.or(&right);
-        let kept_left = self.keeps[join.left];
-        let kept_right = self.keeps[join.right];
-        let joint = kept_left.or(&kept_right);
+        let left = self.at[join.left];
+        let right = self.at[join.right];
+        let under = left.under.or(&right.under);
+        let joint = left.keeps.or(&right.keeps);
         let keeps = joint.and(&outside(shape, &under));
-        let at = shape.tables() + i;
-        self.under[at] = under;
-        self.keeps[at] = keeps;
+        self.at[shape.tables() + i] = Node { under, keeps };
     }
 }

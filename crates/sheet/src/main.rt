@@ -12,12 +12,7 @@ const PLACES: usize = 4096;
 fn print_answer(rt: &HostRuntime, answer: Result<usize, Refusal>) -> anyhow::Result<()> {
     match answer {
         Ok(rows) => println!(rt; "rows={rows}")?,
-        Err(refusal) => {
-            let number = refusal.number();
-            let layer = refusal.word();
-            let place = refusal.place();
-            println!(rt; "refusal={number},{layer},{place}")?;
-        }
+        Err(refusal) => println!(rt; "{refusal}")?,
     }
     Ok(())
 }

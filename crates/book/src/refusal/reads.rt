@@ -1,7 +1,9 @@
-ghost use Rattle.std.specs.Prelude.{◌≡◌};
-ghost use Rattle.book.specs.Refusals.{line_number, record_number, book_number, order_number, question_number, number, place, word};
+ghost use Rattle.std.specs.Prelude.{◌≡◌, Some};
+ghost use Rattle.book.specs.Refusals.{number, place, word, printed};
 
-use super::{BookCause, Layer, LineCause, OrderCause, QuestionCause, RecordCause, Refusal};
+use super::{Layer, Refusal};
+use std::error::Error;
+use std::fmt;
 
 impl Refusal {
     // Its number among the sixteen.
@@ -9,11 +11,11 @@ impl Refusal {
         ensures { result ≡ number self.now }
     {
         match self.layer {
-            Layer::Line { place: _, cause } => line(cause),
-            Layer::Record { place: _, cause } => record(cause),
-            Layer::Book { place: _, cause } => book(cause),
-            Layer::Order { place: _, cause } => order(cause),
-            Layer::Question { place: _, cause } => question(cause),
+            Layer::Line { cause, .. } => cause as u8,
+            Layer::Record { cause, .. } => cause as u8,
+            Layer::Book { cause, .. } => cause as u8,
+            Layer::Order { cause, .. } => cause as u8,
+            Layer::Question { cause, .. } => cause as u8,
         }
     }
 
@@ -22,11 +24,11 @@ impl Refusal {
         ensures { result ≡ place self.now }
     {
         match self.layer {
-            Layer::Line { place, cause: _ } => place,
-            Layer::Record { place, cause: _ } => place,
-            Layer::Book { place, cause: _ } => place,
-            Layer::Order { place, cause: _ } => place,
-            Layer::Question { place, cause: _ } => place,
+            Layer::Line { place, .. }
+            | Layer::Record { place, .. }
+            | Layer::Book { place, .. }
+            | Layer::Order { place, .. }
+            | Layer::Question { place, .. } => place,
         }
     }
 
@@ -35,62 +37,25 @@ impl Refusal {
         ensures { result.now ≡ word self.now }
     {
         match self.layer {
-            Layer::Line { place: _, cause: _ } => "line",
-            Layer::Record { place: _, cause: _ } => "record",
-            Layer::Book { place: _, cause: _ } => "book",
-            Layer::Order { place: _, cause: _ } => "order",
-            Layer::Question { place: _, cause: _ } => "question",
+            Layer::Line { .. } => "line",
+            Layer::Record { .. } => "record",
+            Layer::Book { .. } => "book",
+            Layer::Order { .. } => "order",
+            Layer::Question { .. } => "question",
         }
     }
 }
 
-fn line(cause: LineCause) -> u8
-    ensures { result ≡ line_number cause }
-{
-    match cause {
-        LineCause::TooLong => 1,
-        LineCause::NoForm => 2,
+// As a program prints it: its number, its layer's word and its place.
+impl fmt::Display for Refusal {
+    ghost output = { λ r. Some (printed r) };
+
+    fn fmt<W: fmt::Write>(&self, f: &mut fmt::Formatter<W>) -> fmt::Result {
+        let number = self.number();
+        let word = self.word();
+        let place = self.place();
+        write!(f, "refusal={number},{word},{place}")
     }
 }
 
-fn record(cause: RecordCause) -> u8
-    ensures { result ≡ record_number cause }
-{
-    match cause {
-        RecordCause::Misplaced => 3,
-        RecordCause::TooMany => 4,
-        RecordCause::WrongName => 5,
-        RecordCause::NotRising => 6,
-        RecordCause::NoRoom => 7,
-    }
-}
-
-fn book(cause: BookCause) -> u8
-    ensures { result ≡ book_number cause }
-{
-    match cause {
-        BookCause::Apart => 8,
-    }
-}
-
-fn order(cause: OrderCause) -> u8
-    ensures { result ≡ order_number cause }
-{
-    match cause {
-        OrderCause::BareLock => 9,
-        OrderCause::Unfit => 10,
-        OrderCause::TooWide => 11,
-    }
-}
-
-fn question(cause: QuestionCause) -> u8
-    ensures { result ≡ question_number cause }
-{
-    match cause {
-        QuestionCause::NoOrder => 12,
-        QuestionCause::NotInBook => 13,
-        QuestionCause::FewCells => 14,
-        QuestionCause::ShortOutput => 15,
-        QuestionCause::NoAssignment => 16,
-    }
-}
+impl Error for Refusal {}

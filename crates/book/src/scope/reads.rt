@@ -1,4 +1,4 @@
-ghost use Rattle.std.specs.Prelude.{◌≡◌, ◌<◌, ◌≤◌, [], length, MatchOption, slice_index};
+ghost use Rattle.std.specs.Prelude.{◌≡◌, ◌<◌, ◌≤◌, ◌↔◌, [], length, IsTrue, MatchOption, slice_index};
 ghost use Rattle.book.specs.Lists.{Rising, Below};
 ghost use Rattle.book.specs.Scopes.{named};
 
@@ -18,7 +18,14 @@ impl Scope {
         ensures value { result ≡ slice_index (named self.now) i }
         ensures bound { result < 64 }
     {
-        if i < self.len { self.locks[i] } else { 0 }
+        self.as_slice().get(i).map_or(0, |lock| *lock)
+    }
+
+    // Its locks, rising.
+    pub fn as_slice(&self) -> &[usize]
+        ensures { result.now ≡ named self.now }
+    {
+        &self.locks[..self.len]
     }
 
     // No locks.
@@ -35,22 +42,28 @@ impl Scope {
     pub fn of(locks: &[usize]) -> Option<Scope>
         ensures { MatchOption result (Rising locks.now → Below 64 locks.now → 6 < length locks.now) (λ s. named s ≡ locks.now) }
     {
-        if locks.len() > 6 {
+        if locks.len() > 6 || !is_rising(locks) || !is_below(locks) {
             return None;
         }
         let mut row = [0; 6];
-        for i in 0..locks.len() {
-            if locks[i] >= 64 {
-                return None;
-            }
-            if i > 0 && locks[i - 1] >= locks[i] {
-                return None;
-            }
-            row[i] = locks[i];
-        }
+        row[..locks.len()].copy_from_slice(locks);
         Some(Scope {
             len: locks.len(),
             locks: row,
         })
     }
+}
+
+// Whether each lock is above the one before it.
+fn is_rising(locks: &[usize]) -> bool
+    ensures { IsTrue result ↔ Rising locks.now }
+{
+    locks.is_sorted_by(|before, lock| *before < *lock)
+}
+
+// Whether each lock is below 64.
+fn is_below(locks: &[usize]) -> bool
+    ensures { IsTrue result ↔ Below 64 locks.now }
+{
+    locks.iter().all(|lock| *lock < 64)
 }

@@ -1,5 +1,5 @@
 ghost use Rattle.std.specs.Prelude.{◌≡◌};
-ghost use Rattle.filing.specs.Shapes.{shape_ranged};
+ghost use Rattle.book.specs.BookShapes.{shape_ranged};
 ghost use Rattle.filing.specs.Written.{listed};
 ghost use Rattle.filing.specs.Indexed.{indexed};
 

@@ -1,12 +1,12 @@
 ghost use Rattle.std.specs.Prelude.{◌≡◌, ℕ, ◌<◌, ◌≤◌, length};
 ghost use Rattle.book.specs.Scopes.{named};
-ghost use Rattle.filing.specs.Scopes.{Fit};
-ghost use Rattle.filing.specs.Shapes.{shape_ranged, Grown};
+ghost use Rattle.book.specs.Shapes.{Fit};
+ghost use Rattle.book.specs.BookShapes.{shape_ranged};
+ghost use Rattle.filing.specs.Shapes.{Grown};
 ghost use Rattle.filing.specs.Rules.{permits, ruled, rule_at, by_rules};
 
 use super::{Rule, RuleBook, RuleForm};
-use crate::shape::Shape;
-use book::{Book, Scope};
+use book::{Book, BookShape, Scope};
 use weighing::Charge;
 
 // Whether a form permits two holders.
@@ -24,11 +24,7 @@ fn charged(rule: Rule, holders: usize, row: usize) -> Option<Charge>
     requires { 0 < holders }
     ensures { result ≡ ruled rule holders row }
 {
-    if permitted(rule.form, row / holders, row % holders) {
-        Some(rule.charge)
-    } else {
-        None
-    }
+    permitted(rule.form, row / holders, row % holders).then_some(rule.charge)
 }
 
 impl RuleBook {
@@ -44,7 +40,7 @@ impl RuleBook {
             charge: Charge::ZERO,
         };
         RuleBook {
-            shape: Shape::new(locks, holders),
+            shape: BookShape::new(locks, holders).unwrap(),
             rules: [rule; 64],
         }
     }

@@ -1,13 +1,13 @@
 ghost use Rattle.std.specs.Prelude.{◌≡◌, ◌<◌, ◌≤◌};
 ghost use Rattle.book.specs.Scopes.{named};
-ghost use Rattle.filing.specs.Scopes.{Fit};
-ghost use Rattle.filing.specs.Shapes.{shape_ranged, Grown};
+ghost use Rattle.book.specs.Shapes.{Fit};
+ghost use Rattle.book.specs.BookShapes.{shape_ranged};
+ghost use Rattle.filing.specs.Shapes.{Grown};
 ghost use Rattle.filing.specs.Written.{listed, written};
 
 use super::WrittenBook;
 use crate::RowRecord;
-use crate::shape::Shape;
-use book::{Book, Scope};
+use book::{Book, BookShape, Scope};
 use weighing::Charge;
 
 impl<'a> WrittenBook<'a> {
@@ -21,7 +21,7 @@ impl<'a> WrittenBook<'a> {
     {
         WrittenBook {
             rows,
-            shape: Shape::new(locks, holders),
+            shape: BookShape::new(locks, holders).unwrap(),
         }
     }
 
@@ -61,6 +61,7 @@ impl<'a> Book for WrittenBook<'a> {
         if !self.shape.has_row(table, row) {
             return None;
         }
+        // A form that the project fixes: the lent records are gone through until one is of this table and row.
         for record in self.rows {
             if record.table == table && record.row == row {
                 return Some(record.charge);

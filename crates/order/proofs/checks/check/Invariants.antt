@@ -11,7 +11,7 @@ abbrev pub invariant-loop-i : goal.invariant-loop-i
 invariant-loop-i l =
     let s = shape_in l.shape in
     (first (fault s l.joins) l.i ≡ None)
-    × Known s l.joins l.i l.nodes.under l.nodes.keeps
+    × Known s l.joins l.i l.nodes.at
     × (length l.parts ≡ 64)
     × ((k : ℕ) → k < l.i → get_or (map row_of l.parts) k no_row ≡ row s l.joins k)
     × (l.cells ≡ cells s l.joins l.i)

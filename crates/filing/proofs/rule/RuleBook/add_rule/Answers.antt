@@ -1,7 +1,7 @@
 use Rattle.std.proofs.Common.{◌≡◌, length, set, sym, ap, ◌∙◌, subst, arith}
-use Rattle.filing.specs.Scopes.{scope_at}
+use Rattle.book.specs.Shapes.{scope_at}
 use Rattle.filing.specs.Rules.{ruled, rule_at}
-use Rattle.filing.proofs.Shaped.{scope_each}
+use Rattle.book.proofs.Shaped.{scope_each}
 use Rattle.filing.proofs.Ruled.{rule_set, rule_other}
 use Rattle.filing.proofs.Grows.{grown}
 use Rattle.filing.proofs.rule.RuleBook.add_rule.Goals as goal
@@ -10,14 +10,14 @@ pub invariant_of-self : goal.invariant_of-self
 invariant_of-self c =
     let s = c.args.self.now.shape in
     let n = c.add.new.self in
-    let m = c.add.ensures in
+    let m = c.add.ensures.added (c.add.ensures.value.1 (c.requires.room, c.requires.fit)) in
     record { pairs = λ t h. subst (λ ss. length (scope_at ss t) ≡ 2) (sym m.scopes) (scope_each s.scopes s.tables c.args.scope (λ xs. length xs ≡ 2) t m.room (λ _. c.requires.pair) (λ apart. c.args.self.now.pairs t (omega (arith, m.tables)))) }
 
 pub returns : goal.returns
 returns c =
     let s = c.args.self.now.shape in
     let n = c.add.new.self in
-    let m = c.add.ensures in
+    let m = c.add.ensures.added (c.add.ensures.value.1 (c.requires.room, c.requires.fit)) in
     let rs = c.args.self.now.rules in
     let rs' = set rs c.tables.result c.args.rule in
     let at = c.tables.ensures.value in

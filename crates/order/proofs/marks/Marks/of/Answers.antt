@@ -5,16 +5,18 @@ use Rattle.aggregation.specs.Sets.{among}
 use Rattle.order.proofs.Masked.{none_marked, among_more}
 use Rattle.order.proofs.marks.Marks.of.Goals as goal
 
-pub loop-i-init : goal.loop-i-init
+pub loop-lock-init : goal.loop-lock-init
 unfolding among
-loop-i-init c = (refl, λ k. ap (λ (f : ℕ → Bool). f k) (none_marked 64))
+loop-lock-init c = (refl, λ k. ap (λ (f : ℕ → Bool). f k) (none_marked 64))
 
-pub loop-i-preserved : goal.loop-i-preserved
-loop-i-preserved c =
+pub loop-lock-preserved : goal.loop-lock-preserved
+loop-lock-preserved c =
     let ls = named c.args.scope.now in
-    let e = c.lock.ensures.value in
-    let small : get_or ls c.loop-i.i 0 < length c.loop-i.on = omega arith in
-    (length-set _ _ _ ∙ c.loop-i.invariant.0, subst (λ (x : ℕ). (k : ℕ) → get_or (set c.loop-i.on x true) k false ≡ among (take (c.loop-i.i + 1) ls) k) (sym e) (among_more ls c.loop-i.on c.loop-i.i (omega arith) small c.loop-i.invariant.1))
+    let i = c.loop-lock.lock-index in
+    let e = c.as_slice-lock-items.ensures in
+    let within : i < length ls = omega (arith, ap length e) in
+    let small : get_or ls i 0 < length c.loop-lock.on = omega (arith, c.args.scope.now.below i within) in
+    (length-set _ _ _ ∙ c.loop-lock.invariant.0, subst (λ xs. (k : ℕ) → get_or (set c.loop-lock.on (get_or xs i 0) true) k false ≡ among (take (i + 1) ls) k) (sym e) (among_more ls c.loop-lock.on i within small c.loop-lock.invariant.1))
 
 pub returns : goal.returns
-returns c = fun_ext (λ k. c.loop-i.invariant.1 k ∙ ap (λ ls. among ls k) (take_all c.loop-i.i (named c.args.scope.now) (omega arith)))
+returns c = fun_ext (λ k. c.loop-lock.invariant.1 k ∙ ap (λ ls. among ls k) (take_all c.loop-lock.lock-index (named c.args.scope.now) (omega (arith, ap length c.as_slice-lock-items.ensures))))

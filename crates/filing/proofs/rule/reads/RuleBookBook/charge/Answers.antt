@@ -1,7 +1,7 @@
 use Rattle.std.proofs.Common.{get_or, None, sym, ap, ◌∙◌, arith}
 use Rattle.std.proofs.lemmas.Bool.{cond-true}
 use Rattle.filing.specs.Rules.{ruled, rule_at}
-use Rattle.filing.specs.Shapes.{has_row}
+use Rattle.book.specs.BookShapes.{has_row}
 use Rattle.filing.proofs.Ruled.{rule_read}
 use Rattle.filing.proofs.rule.reads.RuleBookBook.charge.Goals as goal
 

@@ -1,6 +1,6 @@
 use Rattle.std.proofs.Common.{◌≡◌, false, ◌&&◌, eqb, None, sym, refl, ◌∙◌}
 use Rattle.std.proofs.lemmas.Bool.{and_left, and_right, ne_eqb, cond-true}
-use Rattle.filing.specs.Shapes.{has_row}
+use Rattle.book.specs.BookShapes.{has_row}
 use Rattle.filing.specs.Written.{listed}
 use Rattle.filing.proofs.Listings.{listed_here, listed_more, listed_all}
 use Rattle.filing.proofs.written.reads.WrittenBookBook.charge.Goals as goal
