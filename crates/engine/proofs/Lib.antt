@@ -1,11 +1,14 @@
 pub mod Projected
-pub mod Holders
+pub mod HolderSums
 pub mod Digits
+pub mod Onward
 pub mod Outlying
 pub mod Scans
 pub mod Turns
+pub mod Begun
 pub mod Bridge
 pub mod Weighed
+pub mod Within
 pub mod Writes
 pub mod Readings
 pub mod Nodes

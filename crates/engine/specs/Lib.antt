@@ -2,7 +2,6 @@ pub mod Claims
 pub mod Outers
 pub mod Sources
 pub mod Walks
-pub mod Listed
 pub mod Aggregates
 pub mod Fits
 pub mod Runs

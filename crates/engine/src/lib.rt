@@ -1,17 +1,21 @@
 // The engine: cases of a book, orders, bars, and the questions asked of them, over cells that the caller lends.
 //
-// Phases, lowest first: `step`, `steps`, `source`, `factor`, `walk` and `sums` are one aggregation, the projection of the
-// join of two factors; `projects` writes it into cells; `fills` and `spreads` are the two phases; `totals`, `sheets`,
-// `locks` and `assigns` read answers off them. `case`, `refusals` and `runs` are what a caller meets.
+// Phases, lowest first: `holders`, `step`, `steps`, `source`, `factor`, `walk` and `sums` are one aggregation, the
+// projection of the join of two factors; `projects` writes it into cells; `carried` is a book with the plan of its order,
+// and `fills` and `spreads` are the two phases on it; `margins` is what sheets are read off; `totals`, `sheets`, `locks`
+// and `assigns` read the answers. `case`, `refusals` and `runs` are what a caller meets.
 #![tactic(auto)]
 
 mod assigns;
 mod call;
+mod carried;
 mod case;
 mod factor;
 mod fills;
+mod holders;
 mod lent;
 mod locks;
+mod margins;
 mod projects;
 mod question;
 mod refusals;
