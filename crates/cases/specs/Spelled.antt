@@ -2,10 +2,9 @@
 use Rattle.std.specs.Prelude.{ℕ, ◌-◌, ◌^◌, Bool, false, cond, ◌&&◌, List, [], ◌++◌, map, length, None, Option, nat_lt, slice_index_or}
 use Rattle.weighing.specs.Charges.{Charge}
 use Rattle.book.specs.Books.{Meaning}
-use Rattle.aggregation.specs.declared.join.Join.{Join}
 use Rattle.lines.specs.Told.{Told}
 use Rattle.filing.specs.Standing.{at_start, all_rows}
-use Rattle.filing.specs.Contents.{scopes_of, rules_of, joins_of, bars_of, barred_in_turn, ruled_by}
+use Rattle.filing.specs.Contents.{scopes_of, rules_of, bars_of, barred_in_turn, ruled_by}
 use Rattle.filing.specs.Meanings.{lock_names, holder_names}
 use Rattle.filing.specs.Written.{listed}
 
@@ -35,7 +34,3 @@ spelled_book ts = record {
 -- the pairs that are barred
 abbrev pub spelled_bars : List Told → ℕ → ℕ → Bool
 spelled_bars ts = barred_in_turn (λ lock holder. false) (bars_of ts)
-
--- the joins, as an order has them
-abbrev pub spelled_joins : List Told → List Join
-spelled_joins ts = map (λ j. record { left = j.left; right = j.right }) (joins_of ts)

@@ -1,19 +1,17 @@
 -- A draft with one entry more.
 use Rattle.std.proofs.Common.{◌≡◌, ℕ, true, false, List, [], ◌∷◌, ◌++◌, map, length, sym, refl, ap, ◌∙◌, subst, append-nil}
 use Rattle.std.proofs.lemmas.List.{map-append, length-map}
+use Rattle.aggregation.specs.declared.join.Join.{Join}
 use Rattle.book.specs.Books.{Meaning}
 use Rattle.book.specs.Layers.{bar_at, bar_put}
 use Rattle.book.specs.Scopes.{named}
 use Rattle.book.specs.declared.scope.Scope.{Scope}
-use Rattle.weighing.specs.Charges.{Charge}
 use Rattle.filing.specs.declared.draft.Draft.{Draft}
-use Rattle.filing.specs.declared.join.Join.{Join}
 use Rattle.filing.specs.declared.reader.Entry.TheVariants as entry
 use Rattle.filing.specs.declared.record.RowRecord.{RowRecord}
-use Rattle.filing.specs.declared.rule.RuleForm.{RuleForm}
-use Rattle.filing.specs.declared.rule.RuleForm.TheVariants as form
-use Rattle.filing.specs.Contents.{Ruling, ruling, Pair, barred_in_turn, BookOf, ruled_by}
-use Rattle.filing.specs.Drafts.{Holds, Extends, noted_joins}
+use Rattle.filing.specs.declared.rule.Rule.{Rule}
+use Rattle.filing.specs.Contents.{Ruling, Pair, barred_in_turn, BookOf, ruled_by}
+use Rattle.filing.specs.Drafts.{Holds, Extends}
 use Rattle.filing.specs.Rules.{by_rules, ruled}
 use Rattle.filing.specs.Shapes.{Grown}
 use Rattle.filing.specs.Written.{listed, written}
@@ -33,49 +31,52 @@ more_rules m n L H rs r g b =
     length_map_scope rs = simp length-map
 
 module _ (d f : Draft) where
+  -- what an entry leaves as it was
+  same_tables : (L H : ℕ) (rows : List RowRecord) (xs : List (List ℕ)) → f.written ≡ d.written → BookOf (written d.written) L H xs (listed rows) → BookOf (written f.written) L H (xs ++ []) (listed rows)
+  same_tables L H rows xs books b = subst (λ l. BookOf (written f.written) L H l (listed rows)) (sym (append-nil xs)) (subst (λ w. BookOf (written w) L H xs (listed rows)) (sym books) b)
+
+  same_book : (L H : ℕ) (rs : List Ruling) → f.rules ≡ d.rules → BookOf (by_rules d.rules) L H (map (λ r. r.scope) rs) (ruled_by H rs) → BookOf (by_rules f.rules) L H (map (λ r. r.scope) (rs ++ [])) (ruled_by H (rs ++ []))
+  same_book L H rs rules b = same_rules _ L H rs (subst (λ q. BookOf (by_rules q) L H (map (λ r. r.scope) rs) (ruled_by H rs)) (sym rules) b)
+
+  same_joins : (js : List Join) → f.joins ≡ d.joins → d.joins.items ≡ js → f.joins.items ≡ js ++ []
+  same_joins js joins h = ap (λ j. j.items) joins ∙ h ∙ sym (append-nil js)
+
+  same_bars : (ps : List Pair) → f.bars ≡ d.bars → bar_at d.bars.bars ≡ barred_in_turn (λ lock holder. false) ps → bar_at f.bars.bars ≡ barred_in_turn (λ lock holder. false) (ps ++ [])
+  same_bars ps bars h = ap (λ b. bar_at b.bars) bars ∙ h ∙ ap (barred_in_turn (λ lock holder. false)) (sym (append-nil ps))
+
   pub hold_table : (scope : Scope) → Grown (written d.written) (written f.written) (named scope) (listed d.written.rows.now (written d.written).tables) → f.written.rows.now ≡ d.written.rows.now → f.rules ≡ d.rules → f.joins ≡ d.joins → f.bars ≡ d.bars → Extends d f (entry.Table scope)
   hold_table scope g lent rules joins bars L H rows xs rs js ps h = record {
     lent = lent ∙ h.lent;
     written_so = grown_book _ _ L H xs (named scope) _ (listed rows) (listed rows) g h.written_so (λ t k l. refl) (λ k. ap (λ l. listed l (written d.written).tables k) h.lent ∙ ap (λ t. listed rows t k) h.written_so.tables);
-    rules_so = same_rules _ L H rs (subst (λ q. BookOf (by_rules q) L H (map (λ r. r.scope) rs) (ruled_by H rs)) (sym rules) h.rules_so);
-    joins_so = ap noted_joins joins ∙ h.joins_so ∙ sym (append-nil js);
-    bars_so = ap (λ b. bar_at b.bars) bars ∙ h.bars_so ∙ ap (barred_in_turn (λ lock holder. false)) (sym (append-nil ps));
+    rules_so = same_book L H rs rules h.rules_so;
+    joins_so = same_joins js joins h.joins_so;
+    bars_so = same_bars ps bars h.bars_so;
   }
 
-  hold_rule : (scope : Scope) (shape : RuleForm) (c : Charge) → Grown (by_rules d.rules) (by_rules f.rules) (named scope) (ruled (record { form = shape; charge = c }) (by_rules d.rules).holders) → f.written ≡ d.written → f.joins ≡ d.joins → f.bars ≡ d.bars
-      → (L H : ℕ) (rows : List RowRecord) (xs : List (List ℕ)) (rs : List Ruling) (js : List Join) (ps : List Pair) → Holds L H rows xs rs js ps d → Holds L H rows (xs ++ []) (rs ++ (ruling shape (named scope) c ∷ [])) (js ++ []) (ps ++ []) f
-  hold_rule scope shape c g books joins bars L H rows xs rs js ps h = record {
+  pub hold_rule : (scope : Scope) (r : Rule) → Grown (by_rules d.rules) (by_rules f.rules) (named scope) (ruled r (by_rules d.rules).holders) → f.written ≡ d.written → f.joins ≡ d.joins → f.bars ≡ d.bars → Extends d f (entry.Rule scope r)
+  hold_rule scope r g books joins bars L H rows xs rs js ps h = record {
     lent = ap (λ w. w.rows.now) books ∙ h.lent;
-    written_so = subst (λ l. BookOf (written f.written) L H l (listed rows)) (sym (append-nil xs)) (subst (λ w. BookOf (written w) L H xs (listed rows)) (sym books) h.written_so);
-    rules_so = more_rules _ _ L H rs (ruling shape (named scope) c) g h.rules_so;
-    joins_so = ap noted_joins joins ∙ h.joins_so ∙ sym (append-nil js);
-    bars_so = ap (λ b. bar_at b.bars) bars ∙ h.bars_so ∙ ap (barred_in_turn (λ lock holder. false)) (sym (append-nil ps));
+    written_so = same_tables L H rows xs books h.written_so;
+    rules_so = more_rules _ _ L H rs (record { scope = named scope; rule = r }) g h.rules_so;
+    joins_so = same_joins js joins h.joins_so;
+    bars_so = same_bars ps bars h.bars_so;
   }
 
-  pub hold_differ : (scope : Scope) (c : Charge) → Grown (by_rules d.rules) (by_rules f.rules) (named scope) (ruled (record { form = form.Differ; charge = c }) (by_rules d.rules).holders) → f.written ≡ d.written → f.joins ≡ d.joins → f.bars ≡ d.bars → Extends d f (entry.Differ scope c)
-  hold_differ scope c g books joins bars = hold_rule scope form.Differ c g books joins bars
-
-  pub hold_same : (scope : Scope) (c : Charge) → Grown (by_rules d.rules) (by_rules f.rules) (named scope) (ruled (record { form = form.Same; charge = c }) (by_rules d.rules).holders) → f.written ≡ d.written → f.joins ≡ d.joins → f.bars ≡ d.bars → Extends d f (entry.Same scope c)
-  hold_same scope c g books joins bars = hold_rule scope form.Same c g books joins bars
-
-  rest_same : (L H : ℕ) (rows : List RowRecord) (xs : List (List ℕ)) → f.written ≡ d.written → BookOf (written d.written) L H xs (listed rows) → BookOf (written f.written) L H (xs ++ []) (listed rows)
-  rest_same L H rows xs books b = subst (λ l. BookOf (written f.written) L H l (listed rows)) (sym (append-nil xs)) (subst (λ w. BookOf (written w) L H xs (listed rows)) (sym books) b)
-
-  pub hold_join : (m n : ℕ) → noted_joins f.joins ≡ noted_joins d.joins ++ (record { left = m; right = n } ∷ []) → f.written ≡ d.written → f.rules ≡ d.rules → f.bars ≡ d.bars → Extends d f (entry.Join m n)
+  pub hold_join : (m n : ℕ) → f.joins.items ≡ d.joins.items ++ (record { left = m; right = n } ∷ []) → f.written ≡ d.written → f.rules ≡ d.rules → f.bars ≡ d.bars → Extends d f (entry.Join m n)
   hold_join m n pushed books rules bars L H rows xs rs js ps h = record {
     lent = ap (λ w. w.rows.now) books ∙ h.lent;
-    written_so = rest_same L H rows xs books h.written_so;
-    rules_so = same_rules _ L H rs (subst (λ q. BookOf (by_rules q) L H (map (λ r. r.scope) rs) (ruled_by H rs)) (sym rules) h.rules_so);
+    written_so = same_tables L H rows xs books h.written_so;
+    rules_so = same_book L H rs rules h.rules_so;
     joins_so = pushed ∙ ap (λ l. l ++ (record { left = m; right = n } ∷ [])) h.joins_so;
-    bars_so = ap (λ b. bar_at b.bars) bars ∙ h.bars_so ∙ ap (barred_in_turn (λ lock holder. false)) (sym (append-nil ps));
+    bars_so = same_bars ps bars h.bars_so;
   }
 
   pub hold_bar : (lock holder : ℕ) → bar_at f.bars.bars ≡ bar_put (bar_at d.bars.bars) lock holder true → f.written ≡ d.written → f.rules ≡ d.rules → f.joins ≡ d.joins → Extends d f (entry.Bar lock holder)
   hold_bar lock holder put books rules joins L H rows xs rs js ps h = record {
     lent = ap (λ w. w.rows.now) books ∙ h.lent;
-    written_so = rest_same L H rows xs books h.written_so;
-    rules_so = same_rules _ L H rs (subst (λ q. BookOf (by_rules q) L H (map (λ r. r.scope) rs) (ruled_by H rs)) (sym rules) h.rules_so);
-    joins_so = ap noted_joins joins ∙ h.joins_so ∙ sym (append-nil js);
+    written_so = same_tables L H rows xs books h.written_so;
+    rules_so = same_book L H rs rules h.rules_so;
+    joins_so = same_joins js joins h.joins_so;
     bars_so = put ∙ ap (λ b. bar_put b lock holder true) h.bars_so ∙ sym (barred_push (λ lock holder. false) ps (record { lock = lock; holder = holder }));
   }
 

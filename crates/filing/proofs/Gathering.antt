@@ -1,8 +1,9 @@
 -- Gathering what the lines of a text say, line by line.
-use Rattle.std.proofs.Common.{◌≡◌, ℕ, ◌+◌, ◌<◌, ◌≤◌, max, true, false, ◌⊎◌, List, [], ◌∷◌, ◌++◌, map, length, Some, None, Option, sym, refl, ap, ◌∙◌, subst, inl, inr, ⊎_elim, arith, length-append, length-take}
+use Rattle.std.proofs.Common.{◌≡◌, ℕ, ◌+◌, ◌<◌, ◌≤◌, max, true, false, List, [], ◌∷◌, ◌++◌, map, length, Some, None, Option, sym, refl, ap, ◌∙◌, subst, ⊎_elim, arith, length-append}
 use borrow.Author.Tests.{clash}
 use Rattle.std.proofs.lemmas.List.{length-map}
 use Rattle.std.proofs.str.Laws.{order}
+use Rattle.std.proofs.lemmas.Bool.Decides.{nat_tests}
 use Rattle.book.specs.Lists.{Below}
 use Rattle.book.specs.Scopes.{named}
 use Rattle.book.specs.declared.scope.Scope.{Scope}
@@ -11,21 +12,21 @@ use Rattle.lines.specs.Told.{Told, locks, holders, table, row, differ, same, joi
 use Rattle.lines.specs.declared.kind.Kind.{Kind}
 use Rattle.lines.specs.declared.kind.Kind.TheVariants as kind
 use Rattle.filing.specs.declared.draft.Draft.{Draft}
-use Rattle.filing.specs.declared.join.Join.{Join}
+use Rattle.aggregation.specs.declared.join.Join.{Join}
 use Rattle.filing.specs.declared.reader.Entry.{Entry}
 use Rattle.filing.specs.declared.reader.Entry.TheVariants as entry
 use Rattle.filing.specs.declared.record.RowRecord.{RowRecord}
 use Rattle.filing.specs.declared.scan.Scan.{Scan}
 use Rattle.filing.specs.Contents.{gather, line_scopes, Ruling, line_rules, line_joins, Pair, line_bars, scopes_of, rules_of, joins_of, bars_of, barred_in_turn, BookOf, ruled_by}
-use Rattle.filing.specs.Drafts.{entry_scopes, entry_rules, entry_joins, Holds, RoomFor, Extends, noted_joins}
-use Rattle.filing.specs.Follows.{may_follow, may_end}
+use Rattle.filing.specs.Drafts.{entry_scopes, entry_rules, entry_joins, Holds, RoomFor, Extends}
+use Rattle.filing.specs.Follows.{may_follow, may_end, kind_code}
 use Rattle.filing.specs.Judging.{Passes}
 use Rattle.filing.specs.Readers.{AnyRow, Adds, Over}
 use Rattle.book.specs.Layers.{bar_at}
 use Rattle.book.specs.declared.refusal.Refusal.{Refusal}
 use Rattle.filing.specs.declared.names.NameList.{NameList}
 use Rattle.filing.specs.declared.second.Filing.{Filing}
-use Rattle.filing.specs.Meanings.{lock_names, holder_names, Finished, Means, Blank}
+use Rattle.filing.specs.Meanings.{lock_names, holder_names, Finished, Means}
 use Rattle.filing.specs.Reading.{Accepted, Stops}
 use Rattle.filing.specs.Resolving.{names_of}
 use Rattle.filing.specs.Rules.{by_rules}
@@ -81,37 +82,26 @@ later s (bar l h) e a n p = record { came = opened_before s.before kind.Bar (ome
 
 -- the lists come first
 
-before_lists : (b : Option Kind) (k : Kind) → (k ≡ kind.Locks) ⊎ (k ≡ kind.Holders) → may_follow b k ≡ true → opened b ≡ false
-before_lists None k w h = refl
-before_lists (Some kind.Locks) k w h = refl
-before_lists (Some kind.Holders) k w h = absurd (⊎_elim (λ e. clash (subst (λ j. may_follow (Some kind.Holders) j ≡ true) e h)) (λ e. clash (subst (λ j. may_follow (Some kind.Holders) j ≡ true) e h)) w)
-before_lists (Some kind.Table) k w h = absurd (⊎_elim (λ e. clash (subst (λ j. may_follow (Some kind.Table) j ≡ true) e h)) (λ e. clash (subst (λ j. may_follow (Some kind.Table) j ≡ true) e h)) w)
-before_lists (Some kind.Row) k w h = absurd (⊎_elim (λ e. clash (subst (λ j. may_follow (Some kind.Row) j ≡ true) e h)) (λ e. clash (subst (λ j. may_follow (Some kind.Row) j ≡ true) e h)) w)
-before_lists (Some kind.Differ) k w h = absurd (⊎_elim (λ e. clash (subst (λ j. may_follow (Some kind.Differ) j ≡ true) e h)) (λ e. clash (subst (λ j. may_follow (Some kind.Differ) j ≡ true) e h)) w)
-before_lists (Some kind.Same) k w h = absurd (⊎_elim (λ e. clash (subst (λ j. may_follow (Some kind.Same) j ≡ true) e h)) (λ e. clash (subst (λ j. may_follow (Some kind.Same) j ≡ true) e h)) w)
-before_lists (Some kind.Join) k w h = absurd (⊎_elim (λ e. clash (subst (λ j. may_follow (Some kind.Join) j ≡ true) e h)) (λ e. clash (subst (λ j. may_follow (Some kind.Join) j ≡ true) e h)) w)
-before_lists (Some kind.Bar) k w h = absurd (⊎_elim (λ e. clash (subst (λ j. may_follow (Some kind.Bar) j ≡ true) e h)) (λ e. clash (subst (λ j. may_follow (Some kind.Bar) j ≡ true) e h)) w)
-
--- a number for the forms of an entry: whether it is a list of names
-form : Entry → ℕ
-form entry.Names = 0
-form (entry.Table s) = 1
-form (entry.Row r) = 1
-form (entry.Differ s c) = 1
-form (entry.Same s c) = 1
-form (entry.Join m n) = 1
-form (entry.Bar l h) = 1
+before_lists : (b : Option Kind) (k : Kind) → kind_code k < 2 → may_follow b k ≡ true → opened b ≡ false
+before_lists None k l h = refl
+before_lists (Some kind.Locks) k l h = refl
+before_lists (Some kind.Holders) k l h = absurd (grind (arith, nat_tests))
+before_lists (Some kind.Table) k l h = absurd (grind (arith, nat_tests))
+before_lists (Some kind.Row) k l h = absurd (grind (arith, nat_tests))
+before_lists (Some kind.Differ) k l h = absurd (grind (arith, nat_tests))
+before_lists (Some kind.Same) k l h = absurd (grind (arith, nat_tests))
+before_lists (Some kind.Join) k l h = absurd (grind (arith, nat_tests))
+before_lists (Some kind.Bar) k l h = absurd (grind (arith, nat_tests))
 
 pub early : (s : Standing) (t : Told) → Adds s t entry.Names → Passes AnyRow s t → opened s.before ≡ false
-unfolding form
-early s (locks ns) a p = before_lists s.before kind.Locks (inl refl) (follows s (locks ns) p)
-early s (holders ns) a p = before_lists s.before kind.Holders (inr refl) (follows s (holders ns) p)
-early s (table ns) a p = absurd (omega (arith, ap form a.2))
-early s (row ns k) a p = absurd (omega (arith, ap form a))
-early s (differ ns k) a p = absurd (omega (arith, ap form a.2))
-early s (same ns k) a p = absurd (omega (arith, ap form a.2))
-early s (join i k) a p = absurd (omega (arith, ap form a))
-early s (bar l h) a p = absurd (omega (arith, ap form a))
+early s (locks ns) a p = before_lists s.before kind.Locks (omega arith) (follows s (locks ns) p)
+early s (holders ns) a p = before_lists s.before kind.Holders (omega arith) (follows s (holders ns) p)
+early s (table ns) a p = absurd (let e = a.2 in cc)
+early s (row ns k) a p = absurd (let e = a in cc)
+early s (differ ns k) a p = absurd (let e = a.2 in cc)
+early s (same ns k) a p = absurd (let e = a.2 in cc)
+early s (join i k) a p = absurd (let e = a in cc)
+early s (bar l h) a p = absurd (let e = a in cc)
 
 -- room for what a line adds
 
@@ -150,7 +140,7 @@ module _ (s : Standing) (rows : List RowRecord) (xs : List (List ℕ)) (rs : Lis
       (omega (arith, rules_few (below_64 _ (p TooMany)), h.rules_so.tables), fits ns 2 a.0 _ h.rules_so.locks (omega arith) (wide ns g.0) a.1, two ns a.0 g.0 a.1)
   room_for (join i k) e a g p =
       subst (RoomFor d) (sym a)
-      (omega (arith, joins, ap length h.joins_so, length-take d.joins.len d.joins.at, d.joins.few, d.joins.size, ⊎_elim (λ l. l) (λ w. absurd (p TooMany w)) (order s.joins 63)))
+      (omega (arith, joins, ap length h.joins_so, ⊎_elim (λ l. l) (λ w. absurd (p TooMany w)) (order s.joins 63)))
   room_for (bar l k) e a g p = subst (RoomFor d) (sym a) tt
 
 -- the lines so far and what is gathered of them
@@ -162,8 +152,7 @@ pub record Empty (ts : List Told) : Type 0 where
   pub bars : bars_of ts ≡ []
 
 pub record Gathered (text : List ℕ) (rows : List RowRecord) (ts : List Told) (p : Scan) (d : Draft) : Type 0 where
-  pub n : ℕ
-  pub sofar : Sofar AnyRow text ts p n
+  pub sofar : Sofar AnyRow text ts p
   pub sound : Sound (standing_at p)
   pub tables : (standing_at p).tables ≡ length (scopes_of ts) + length (rules_of ts)
   pub joins : (standing_at p).joins ≡ length (joins_of ts)
@@ -173,7 +162,6 @@ pub record Gathered (text : List ℕ) (rows : List RowRecord) (ts : List Told) (
 pub begin : (text : List ℕ) (rows : List RowRecord) (p : Scan) (d : Draft) → length text ≤ 65535 → Opened text p → Gathered text rows [] p d
 unfolding gather
 begin text rows p d short o = record {
-  n = 0;
   sofar = start AnyRow text p short o;
   sound = subst Sound (sym o.stands) sound_start;
   tables = ap (λ s. s.tables) o.stands;
@@ -189,8 +177,8 @@ module _ (text : List ℕ) (rows : List RowRecord) (ts : List Told) (p : Scan) (
   here : SameContents (standing_at p) step.line e
   here = same_contents (standing_at p) step.line e step.taken.adds
 
-  next_sofar : Sofar AnyRow text (ts ++ (step.line ∷ [])) q (length (all_rows at_start (ts ++ (step.line ∷ []))))
-  next_sofar = onward AnyRow text ts p g.n g.sofar q e step (room (standing_at p) step.line)
+  next_sofar : Sofar AnyRow text (ts ++ (step.line ∷ [])) q
+  next_sofar = onward AnyRow text ts p g.sofar q e step (room (standing_at p) step.line)
 
   pub next_sound : Sound (standing_at q)
   next_sound = subst Sound (sym step.taken.moves) (sound_more (standing_at p) step.line g.sound step.begins.good step.taken.passes)
@@ -218,7 +206,6 @@ module _ (text : List ℕ) (rows : List RowRecord) (ts : List Told) (p : Scan) (
     -- the line adds more than names
     pub add_entry : (f : Draft) → Extends d f e → Gathered text rows (ts ++ (step.line ∷ [])) q f
     add_entry f x = record {
-      n = _;
       sofar = next_sofar;
       sound = next_sound;
       tables = next_tables;
@@ -255,7 +242,6 @@ module _ (text : List ℕ) (rows : List RowRecord) (ts : List Told) (p : Scan) (
 
     pub add_names : (f : Draft) (L H : ℕ) → L ≡ max (length (standing_at q).locks) 1 → H ≡ max (length (standing_at q).holders) 1 → Holds L H rows [] [] [] [] f → Gathered text rows (ts ++ (step.line ∷ [])) q f
     add_names f L H l k h = record {
-      n = _;
       sofar = next_sofar;
       sound = next_sound;
       tables = next_tables;
@@ -294,24 +280,12 @@ meant_by text rows us p d g halt ts acc eq ls hs le he f fin = ⊎_elim ended st
               subst (λ w. BookOf (by_rules w) (length (lock_names ts)) (length (holder_names ts)) (map (λ r. r.scope) (rules_of ts)) (ruled_by (length (holder_names ts)) (rules_of ts))) (sym fin.rules_so)
               (subst (λ v. BookOf (by_rules d.rules) (length (lock_names ts)) (length (holder_names ts)) (map (λ r. r.scope) (rules_of v)) (ruled_by (length (holder_names ts)) (rules_of v))) e
               (subst (λ q. BookOf (by_rules d.rules) (length q.locks) (length q.holders) (map (λ r. r.scope) (rules_of us)) (ruled_by (length q.holders) (rules_of us))) s h.rules_so));
-          joins = ap noted_joins fin.joins_so ∙ h.joins_so ∙ ap joins_of e;
+          joins = ap (λ j. j.items) fin.joins_so ∙ h.joins_so ∙ ap joins_of e;
           bars = ap bar_at fin.bars_so ∙ h.bars_so ∙ ap (λ v. barred_in_turn (λ lock holder. false) (bars_of v)) e;
         }
 
     ended : Ended p → Means ts f
-    ended n = whole ((one_verdict AnyRow).one_reading text us ts (done AnyRow text us p g.n g.sofar n) acc) n.ends
+    ended n = whole ((one_verdict AnyRow).one_reading text us ts (done AnyRow text us p g.sofar n) acc) n.ends
 
     stopped : ((e : Refusal) × Stops AnyRow (standing_at p) p.place p.rest.now e) → Means ts f
-    stopped r = absurd ((one_verdict AnyRow).never_both text r.0 ts us acc (refused AnyRow text us p g.n g.sofar r.0 r.1))
-
--- a draft of nothing makes a blank filing
-pub blank_of : (d : Draft) (locks holders : NameList) (f : Filing) → Holds 1 1 [] [] [] [] [] d → names_of locks.names ≡ [] → names_of holders.names ≡ [] → Finished d locks holders f → Blank f
-unfolding barred_in_turn
-blank_of d ls hs f h le he fin = record {
-  locks = ap (λ n. names_of n.names) fin.locks_so ∙ le;
-  holders = ap (λ n. names_of n.names) fin.holders_so ∙ he;
-  tables = subst (λ w. BookOf (written w) 1 1 [] (listed [])) (sym fin.written_so) h.written_so;
-  rules = subst (λ w. BookOf (by_rules w) 1 1 [] (ruled_by 1 [])) (sym fin.rules_so) h.rules_so;
-  joins = ap noted_joins fin.joins_so ∙ h.joins_so;
-  bars = ap bar_at fin.bars_so ∙ h.bars_so;
-}
+    stopped r = absurd ((one_verdict AnyRow).never_both text r.0 ts us acc (refused AnyRow text us p g.sofar r.0 r.1))

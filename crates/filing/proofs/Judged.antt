@@ -1,15 +1,20 @@
 -- Which condition is the first that a line meets.
-use Rattle.std.proofs.Common.{◌≡◌, ℕ, ◌<◌, ◌≤◌, true, false, List, sym, ◌∙◌, arith}
+use Rattle.std.proofs.Common.{◌≡◌, ℕ, ◌<◌, ◌≤◌, true, false, List, length, sym, ap, ◌∙◌, arith}
 use borrow.Author.Tests.{clash}
 use Rattle.book.specs.Refusals.{record_number}
 use Rattle.book.specs.declared.refusal.RecordCause.{RecordCause}
 use Rattle.book.specs.declared.refusal.RecordCause.TheVariants.{Misplaced, TooMany, WrongName, NotRising, NoRoom}
 use Rattle.lines.specs.Told.{Told, locks, holders, table, row, differ, same, join, bar, kind_of}
 use Rattle.filing.specs.declared.record.RowRecord.{RowRecord}
+use Rattle.filing.specs.declared.reader.Entry.TheVariants as entry
+use Rattle.filing.specs.declared.rule.RuleForm.{RuleForm}
+use Rattle.filing.specs.declared.rule.RuleForm.TheVariants as form
+use Rattle.weighing.specs.Charges.{Charge}
+use Rattle.lines.specs.declared.kind.Kind.TheVariants as kind
 use Rattle.filing.specs.Follows.{may_follow}
-use Rattle.filing.specs.Standing.{Standing}
+use Rattle.filing.specs.Standing.{Standing, add_table, charge_of}
 use Rattle.filing.specs.Judging.{Unlisted, Falls, HasTooMany, HasWrongName, IsNotRising, HasNoRoom, Met, FirstMet, Passes}
-use Rattle.filing.specs.Readers.{AnyRow, Unscoped, Scoped}
+use Rattle.filing.specs.Readers.{AnyRow, Unscoped, Scoped, Taken, rule_line}
 use Rattle.book.specs.declared.scope.Scope.{Scope}
 
 -- with the row list left aside no line lacks room
@@ -94,37 +99,50 @@ scope_passes s t ns i scope g =
 pub is_table : (s : Standing) (ns : List (List ℕ)) → may_follow s.before (kind_of (table ns)) ≡ true → IsTable s (table ns) ns
 is_table s ns f = record { follows = f; many = λ h. h; many_only = λ h. h; wrong = λ h. h; wrong_only = λ h. h; falls = λ h. h; falls_only = λ h. h }
 
-pub is_differ : (s : Standing) (ns : List (List ℕ)) (n : ℕ) → may_follow s.before (kind_of (differ ns n)) ≡ true → IsTable s (differ ns n) ns
+is_differ : (s : Standing) (ns : List (List ℕ)) (n : ℕ) → may_follow s.before (kind_of (differ ns n)) ≡ true → IsTable s (differ ns n) ns
 is_differ s ns n f = record { follows = f; many = λ h. h; many_only = λ h. h; wrong = λ h. h; wrong_only = λ h. h; falls = λ h. h; falls_only = λ h. h }
 
-pub is_same : (s : Standing) (ns : List (List ℕ)) (n : ℕ) → may_follow s.before (kind_of (same ns n)) ≡ true → IsTable s (same ns n) ns
+is_same : (s : Standing) (ns : List (List ℕ)) (n : ℕ) → may_follow s.before (kind_of (same ns n)) ≡ true → IsTable s (same ns n) ns
 is_same s ns n f = record { follows = f; many = λ h. h; many_only = λ h. h; wrong = λ h. h; wrong_only = λ h. h; falls = λ h. h; falls_only = λ h. h }
+
+pub is_rule : (s : Standing) (f : RuleForm) (ns : List (List ℕ)) (n : ℕ) → may_follow s.before (kind_of (rule_line f ns n)) ≡ true → IsTable s (rule_line f ns n) ns
+is_rule s form.Differ ns n h = is_differ s ns n h
+is_rule s form.Same ns n h = is_same s ns n h
+
+-- a rule whose locks can be a scope is taken
+pub rule_taken : (s : Standing) (f : RuleForm) (ns : List (List ℕ)) (n w : ℕ) (scope : Scope) (c : Charge) → may_follow s.before (kind_of (rule_line f ns n)) ≡ true → Scoped s ns scope → w ≡ length ns → c ≡ charge_of n → Taken s (rule_line f ns n) (add_table s (kind_of (rule_line f ns n)) w) (entry.Rule scope (record { form = f; charge = c }))
+rule_taken s form.Differ ns n w scope c follows g e k = record {
+  passes = scope_passes s (differ ns n) ns (is_differ s ns n follows) scope g;
+  adds = (scope, g.over, ap (λ c. entry.Rule scope (record { form = form.Differ; charge = c })) k);
+  moves = ap (add_table s kind.Differ) e;
+}
+rule_taken s form.Same ns n w scope c follows g e k = record {
+  passes = scope_passes s (same ns n) ns (is_same s ns n follows) scope g;
+  adds = (scope, g.over, ap (λ c. entry.Rule scope (record { form = form.Same; charge = c })) k);
+  moves = ap (add_table s kind.Same) e;
+}
+
+-- of all conditions only that of room looks at the row list
+other_met : (Bad Other : ℕ → RowRecord → Type 0) (s : Standing) (t : Told) (c : RecordCause) → record_number c < 7 → Met Bad c s t → Met Other c s t
+other_met Bad Other s t Misplaced l m = m
+other_met Bad Other s t TooMany l m = m
+other_met Bad Other s t WrongName l m = m
+other_met Bad Other s t NotRising l m = m
+other_met Bad Other s t NoRoom l m = absurd (omega arith)
 
 -- a line that the reader refuses with the row list left aside is refused with any row list
 pub first_any : (Bad : ℕ → RowRecord → Type 0) (s : Standing) (t : Told) (cause : RecordCause) → FirstMet AnyRow cause s t → FirstMet Bad cause s t
-first_any Bad s t Misplaced f = first_misplaced Bad s t f.met
-first_any Bad s t TooMany f = record { met = f.met; first = below } where
-  below : (c : RecordCause) → record_number c < 4 → Met Bad c s t → ⊥
-  below Misplaced l m = f.first Misplaced l m
-  below TooMany l m = omega arith
-  below WrongName l m = omega arith
-  below NotRising l m = omega arith
-  below NoRoom l m = omega arith
-first_any Bad s t WrongName f = record { met = f.met; first = below } where
-  below : (c : RecordCause) → record_number c < 5 → Met Bad c s t → ⊥
-  below Misplaced l m = f.first Misplaced l m
-  below TooMany l m = f.first TooMany l m
-  below WrongName l m = omega arith
-  below NotRising l m = omega arith
-  below NoRoom l m = omega arith
-first_any Bad s t NotRising f = record { met = f.met; first = below } where
-  below : (c : RecordCause) → record_number c < 6 → Met Bad c s t → ⊥
-  below Misplaced l m = f.first Misplaced l m
-  below TooMany l m = f.first TooMany l m
-  below WrongName l m = f.first WrongName l m
-  below NotRising l m = omega arith
-  below NoRoom l m = omega arith
-first_any Bad s t NoRoom f = absurd (room s t f.met)
+first_any Bad s t cause f = first cause f (below cause f.met)
+  where
+    below : (c : RecordCause) → Met AnyRow c s t → record_number c < 7
+    below Misplaced m = omega arith
+    below TooMany m = omega arith
+    below WrongName m = omega arith
+    below NotRising m = omega arith
+    below NoRoom m = absurd (room s t m)
+
+    first : (cause : RecordCause) → FirstMet AnyRow cause s t → record_number cause < 7 → FirstMet Bad cause s t
+    first cause f l = record { met = other_met AnyRow Bad s t cause l f.met; first = λ c k m. f.first c k (other_met Bad AnyRow s t c (omega arith) m) }
 
 -- a line that passes with the row list left aside, and for whose row there is no room
 pub first_room : (Bad : ℕ → RowRecord → Type 0) (s : Standing) (t : Told) → Passes AnyRow s t → HasNoRoom Bad s t → FirstMet Bad NoRoom s t

@@ -1,17 +1,29 @@
 -- The first place of a name.
-use Rattle.std.proofs.Common.{◌≡◌, ℕ, zero, suc, ◌+◌, ◌*◌, ◌^◌, ◌<◌, ◌≤◌, true, false, cond, List, [], ◌∷◌, ◌++◌, length, get_or, take, Some, None, Option, sym, refl, ap, ◌∙◌, mul_assoc, add-mul, mul-le-mul, pow-suc, zero-mul, mul-one, add-one, arith, length-append, length-take, get_or-take, MatchOption}
+use Rattle.std.proofs.Common.{◌≡◌, ℕ, zero, suc, ◌+◌, ◌*◌, ◌^◌, ◌<◌, ◌≤◌, Bool, true, false, cond, ◌||◌, ◌&&◌, eqb, ltb, List, [], ◌∷◌, ◌++◌, length, get_or, take, Some, None, Option, sym, refl, ap, ◌∙◌, subst, mul_assoc, add-mul, mul-le-mul, pow-suc, zero-mul, mul-one, add-one, arith, Less, Equal, Greater, length-append, length-take, get_or-take, MatchBool, MatchOption, MatchResult}
 use native.Mathlib.Nat.{pow-zero, pow-le-pow_left, pow-le-pow_right}
 use Rattle.std.specs.Str.{bytes_eq}
 use Rattle.std.proofs.lemmas.Slice.Eq.{bytes_eq-Decides}
 use Rattle.std.proofs.lemmas.List.{take_more, map-append, get_or-map, length-map}
-use Rattle.book.specs.Lists.{Below}
+use Rattle.std.specs.List.{range_with_len, HoldsAt, AllWithin}
+use Rattle.std.proofs.lemmas.Bool.{false≢true}
+use Rattle.std.proofs.lemmas.List.FromFn.{get_or-range_with_len, length-range_with_len}
+use Rattle.arrayvec.specs.ArrayVec.{ArrayVec}
+use Rattle.weighing.specs.Tests.{Tells}
+use Rattle.std.proofs.lemmas.Bool.Decides.{nat_tests}
+use Rattle.std.specs.Cmp.{Some-then}
+use Rattle.std.specs.Ordering.{is_le, is_some_and, ordering_then, partial_ordering_then, nat_cmp}
+use Rattle.std.specs.Option.{ok_or}
+use Rattle.book.specs.Lists.{Rising, Below}
+use Rattle.book.specs.Scopes.{named}
+use Rattle.book.specs.declared.scope.Scope.{Scope}
+use Rattle.book.specs.declared.refusal.RecordCause.TheVariants.{NotRising}
+use Rattle.filing.specs.Readers.{Scoped, Unscoped}
 use Rattle.book.specs.Rows.{row_number}
 use Rattle.book.proofs.Numbers.{rows_numbered}
 use Rattle.lines.specs.Names.{FirstAt, Absent}
-use Rattle.filing.specs.Standing.{place_of, places}
-use Rattle.filing.specs.Judging.{Unlisted}
-use Rattle.filing.specs.Resolving.{Found, noted, Noted}
-use Rattle.filing.specs.declared.resolve.Places.{Places}
+use Rattle.filing.specs.Standing.{Standing, place_of, places}
+use Rattle.filing.specs.Judging.{Twice, Unlisted, NotAbove}
+use Rattle.filing.specs.Resolving.{Found, Noted, Repeats}
 
 same_not : (m n : List ℕ) → (m ≡ n → ⊥) → bytes_eq m n ≡ false
 same_not m n h = elim (bytes_eq m n) as (λ v. bytes_eq m n ≡ v → v ≡ false) [ true ↦ λ e. absurd (h ((bytes_eq-Decides m n).0 e)) | false ↦ λ e. refl ] refl
@@ -52,17 +64,14 @@ row_push H (x ∷ ds) d =
     ∙ ap (λ k. x * (H ^ length ds * H) + k) (row_push H ds d)
     ∙ omega (arith, mul_assoc x (H ^ length ds) H, add-mul (x * H ^ length ds) (row_number H ds) H)
 
-below_take : (n : ℕ) (xs : List ℕ) (k i : ℕ) → Below n (take k xs) → i ≤ k → Below n (take i xs)
-below_take n xs k i b h j l =
-    let p : j < i = omega (arith, length-take i xs) in
-    let q : j < length (take k xs) = omega (arith, length-take i xs, length-take k xs) in
-    rw (get_or-take i xs j 0 p) (rw (get_or-take k xs j 0 (omega arith)) at (b j q))
+below_take : (n : ℕ) (xs : List ℕ) (i : ℕ) → Below n xs → i ≤ length xs → Below n (take i xs)
+below_take n xs i b h j l = rw (get_or-take i xs j 0 (omega (arith, length-take i xs))) (b j (omega (arith, length-take i xs)))
 
 -- the number so far and the next digit fit
-pub row_more : (H : ℕ) (xs : List ℕ) (k i row : ℕ) → H ≤ 16 → k ≤ 4 → length xs ≡ 4 → Below H (take k xs) → i < k → row ≡ row_number H (take i xs) → (row * H ≤ 1048576) × (row * H + get_or xs i 0 ≡ row_number H (take (i + 1) xs)) × (get_or xs i 0 < H)
-row_more H xs k i row small few size b l e =
-    let d : get_or xs i 0 < H = rw (get_or-take k xs i 0 l) at (b i (omega (arith, length-take k xs))) in
-    let n = (rows_numbered H (omega arith)).small (take i xs) (below_take H xs k i b (omega arith)) in
+pub row_more : (H : ℕ) (xs : List ℕ) (i row : ℕ) → H ≤ 16 → length xs ≤ 4 → Below H xs → i < length xs → row ≡ row_number H (take i xs) → (row * H ≤ 1048576) × (row * H + get_or xs i 0 ≡ row_number H (take (i + 1) xs)) × (get_or xs i 0 < H)
+row_more H xs i row small few b l e =
+    let d : get_or xs i 0 < H = b i l in
+    let n = (rows_numbered H (omega arith)).small (take i xs) (below_take H xs i b (omega arith)) in
     let p : H ^ length (take i xs) ≤ H ^ 4 = pow-le-pow_right (omega arith) (omega (arith, length-take i xs)) in
     let q : H ^ 4 ≤ 16 ^ 4 = pow-le-pow_left small 4 in
     let m : row ≤ 65536 = omega (arith, e) in
@@ -86,10 +95,8 @@ all_listed list ns b u =
     let l : place_of list (get_or ns u.place []) < length list = rw e at (b u.place (simp length-map u.within)) in
     u.absent (place_of list (get_or ns u.place [])) l (place_here list (get_or ns u.place []) l)
 
-pub places_many : (list ns : List (List ℕ)) (p : Places) → Noted list ns p → p.len ≡ length ns
-places_many list ns p n =
-    let e : length (noted p) ≡ length ns = ap length n.is ∙ simp length-map in
-    omega (arith, e, n.few, n.size, length-take p.len p.at)
+pub places_many : (list ns : List (List ℕ)) (p : ArrayVec ℕ) → Noted list ns p → length p.items ≡ length ns
+places_many list ns p n = ap length n.is ∙ simp length-map
 
 -- a name that is found is in the list
 pub found_there : (list : List (List ℕ)) (name : List ℕ) (i : ℕ) → Found list name i → Absent list name → ⊥
@@ -100,3 +107,45 @@ found_there list name i f a =
 pub empty_is : (xs : List ℕ) → length xs ≡ 0 → xs ≡ []
 empty_is [] h = refl
 empty_is (x ∷ xs) h = absurd (omega arith)
+
+-- a name stands twice in a list where some place of it repeats
+pub twice_from_any : (ns : List (List ℕ)) (n : ℕ) (r : Bool) → n ≡ length ns → MatchBool r ((k : ℕ) × (k < length (range_with_len 0 n)) × HoldsAt (Repeats ns) (range_with_len 0 n) k) (AllWithin (λ i. Repeats ns i → ⊥) (range_with_len 0 n) 0 (length (range_with_len 0 n))) → Tells (Twice ns) r
+twice_from_any ns n true e h = record {
+  sound = λ _. let w = h.2 0 in record { one = w.one; other = get_or (range_with_len 0 n) h.0 0; apart = w.apart; within = w.within; equal = w.equal };
+  full = λ _. refl;
+}
+twice_from_any ns n false e h = record {
+  sound = λ t. absurd (false≢true t);
+  full = λ t. absurd (h t.other 0 (omega arith) (omega (arith, length-range_with_len 0 n, t.within)) (subst (Repeats ns) (omega (arith, get_or-range_with_len 0 n t.other 0 (omega (arith, t.within)))) (record { one = t.one; apart = t.apart; within = t.within; equal = t.equal })));
+}
+
+-- a scope over places of a list, or why there is none
+pub scoped : (s : Standing) (ns : List (List ℕ)) (p : ArrayVec ℕ) (o : Option Scope) → s.tables < 64 → length s.locks ≤ 64 → length ns ≤ 4 → Noted s.locks ns p → MatchOption o (Rising p.items → Below 64 p.items → 6 < length p.items) (λ x. named x ≡ p.items) → MatchResult (ok_or o NotRising) (λ scope. Scoped s ns scope) (λ cause. Unscoped cause s ns)
+scoped s ns p (Some x) few short four n h = record {
+  few = few;
+  listed = all_listed _ _ (subst (Below _) n.is n.below);
+  rises = subst Rising (h ∙ n.is) x.rising;
+  over = record { is = h ∙ n.is; below = subst (Below _) (sym h) n.below };
+}
+scoped s ns p None few short four n h = (
+  few,
+  all_listed _ _ (subst (Below _) n.is n.below),
+  λ rises. omega (arith, places_many _ _ p n, h (subst Rising (sym n.is) rises) (λ k l. omega (arith, n.below k l))),
+)
+
+-- two orders in turn, as tests
+le_tests : (l e m n : Bool) → is_le (ordering_then (cond l Less (cond e Equal Greater)) (cond m Less (cond n Equal Greater))) ≡ l || (e && (m || n))
+le_tests true e m n = refl
+le_tests false false m n = refl
+le_tests false true true n = refl
+le_tests false true false true = refl
+le_tests false true false false = refl
+
+-- the order of pairs tells whether a bar is not above another
+pub pairs_tell : (a b x y : ℕ) (r : Bool) → r ≡ is_some_and is_le (partial_ordering_then (Some (nat_cmp a x)) (Some (nat_cmp b y))) → Tells (NotAbove a b x y) r
+pairs_tell a b x y r e =
+    let f : r ≡ ltb a x || (eqb a x && (ltb b y || eqb b y)) = e ∙ ap (is_some_and is_le) (Some-then (nat_cmp a x) (nat_cmp b y)) ∙ le_tests (ltb a x) (eqb a x) (ltb b y) (eqb b y) in
+    record {
+      sound = λ t. grind (arith, nat_tests);
+      full = λ h. grind (arith, nat_tests);
+    }

@@ -1,14 +1,13 @@
 -- The second call after the first: each row is found where the first call put it.
 use Rattle.std.proofs.Common.{◌≡◌, ℕ, ◌+◌, ◌<◌, List, [], ◌∷◌, ◌++◌, length, get_or, drop, sym, refl, ap, ◌∙◌, subst, append_assoc, add-zero, arith, length-append}
 use Rattle.std.proofs.lemmas.List.{get_or-append-add}
-use Rattle.book.specs.declared.refusal.RecordCause.TheVariants.{Misplaced, TooMany, WrongName, NotRising, NoRoom}
 use Rattle.lines.specs.Told.{Told, locks, holders, table, row, differ, same, join, bar}
 use Rattle.filing.specs.declared.record.RowRecord.{RowRecord}
 use Rattle.filing.specs.Standing.{Standing, at_start, after, line_rows, all_rows, record_of}
-use Rattle.filing.specs.Judging.{HasNoRoom, Passes}
+use Rattle.filing.specs.Judging.{HasNoRoom}
 use Rattle.filing.specs.Reading.{Full, OtherRow, AllPass, filled}
 use Rattle.filing.specs.Verdicts.{SecondFollows}
-use Rattle.filing.proofs.Texts.{line_count}
+use Rattle.filing.proofs.Texts.{line_count, passes_with}
 
 -- the list has these rows from the place k on
 pub record From (list : List RowRecord) (k : ℕ) (rows : List RowRecord) : Type 0 where
@@ -41,17 +40,10 @@ no_other list s (same ns n) ys f h = h
 no_other list s (join m n) ys f h = h
 no_other list s (bar l k) ys f h = h
 
-passes_other : (Bad : ℕ → RowRecord → Type 0) (list : List RowRecord) (s : Standing) (t : Told) (ys : List RowRecord) → From list s.rows (line_rows s t ++ ys) → Passes Bad s t → Passes (OtherRow list) s t
-passes_other Bad list s t ys f p Misplaced m = p Misplaced m
-passes_other Bad list s t ys f p TooMany m = p TooMany m
-passes_other Bad list s t ys f p WrongName m = p WrongName m
-passes_other Bad list s t ys f p NotRising m = p NotRising m
-passes_other Bad list s t ys f p NoRoom m = no_other list s t ys f m
-
 all_other : (Bad : ℕ → RowRecord → Type 0) (list : List RowRecord) (s : Standing) (ts : List Told) → From list s.rows (all_rows s ts) → AllPass Bad s ts → AllPass (OtherRow list) s ts
 all_other Bad list s [] f a = tt
 all_other Bad list s (t ∷ ts) f a = (
-  passes_other Bad list s t (all_rows (after s t) ts) f a.0,
+  passes_with Bad (OtherRow list) s t a.0 (no_other list s t (all_rows (after s t) ts) f),
   all_other Bad list (after s t) ts (subst (λ k. From list k (all_rows (after s t) ts)) (sym (line_count s t)) (from_more list s.rows (line_rows s t) (all_rows (after s t) ts) f)) a.1,
 )
 

@@ -1,8 +1,7 @@
 -- One line more of a text: what stands then, its rows, and that all lines before pass.
-use Rattle.std.proofs.Common.{◌≡◌, ℕ, ◌+◌, ◌<◌, ◌≤◌, List, [], ◌∷◌, ◌++◌, length, drop, set, sym, refl, ap, ◌∙◌, subst, ⊎_elim, append_assoc, append-nil, arith, length-append, length-drop}
+use Rattle.std.proofs.Common.{◌≡◌, ℕ, ◌+◌, ◌<◌, ◌≤◌, List, [], ◌∷◌, ◌++◌, length, drop, set, sym, refl, ap, ◌∙◌, subst, append_assoc, append-nil, arith, length-append, length-drop}
 use Rattle.std.proofs.ByRecursion.{All-push}
 use Rattle.std.proofs.lemmas.List.{drop-drop}
-use Rattle.std.proofs.str.Laws.{order}
 use Rattle.book.specs.declared.refusal.Refusal.{Refusal}
 use Rattle.book.specs.declared.refusal.RecordCause.TheVariants.{Misplaced, TooMany, WrongName, NotRising, NoRoom}
 use Rattle.lines.specs.Told.{Told, locks, holders, table, row, differ, same, join, bar, spell, Good}
@@ -13,7 +12,7 @@ use Rattle.filing.specs.declared.reader.Entry.TheVariants as entry
 use Rattle.filing.specs.Standing.{Standing, at_start, after, after_all, line_rows, all_rows}
 use Rattle.filing.specs.Judging.{HasNoRoom, Passes}
 use Rattle.filing.specs.Reading.{AllPass, Reached, Accepted, Stops, no_line, met, ended}
-use Rattle.filing.specs.Readers.{AnyRow, Kept, Adds}
+use Rattle.filing.specs.Readers.{AnyRow, Adds, Taken}
 use Rattle.filing.proofs.Judged.{first_any, room}
 
 pub after_push : (s : Standing) (ts : List Told) (t : Told) → after_all s (ts ++ (t ∷ [])) ≡ after (after_all s ts) t
@@ -56,7 +55,8 @@ pub row_count : (s : Standing) (ts : List Told) → (after_all s ts).rows ≡ s.
 row_count s [] = omega arith
 row_count s (t ∷ ts) = row_count (after s t) ts ∙ ap (λ k. k + length (all_rows (after s t) ts)) (line_count s t) ∙ omega (arith, length-append (line_rows s t) (all_rows (after s t) ts))
 
-one_at_most : (s : Standing) (t : Told) → length (line_rows s t) ≤ 1
+-- a line that is taken is one row at most, and is longer than nothing: so no count outgrows the text
+one_at_most : (s : Standing) (t : Told) → (after s t).rows ≤ s.rows + 1
 one_at_most s (locks ns) = omega arith
 one_at_most s (holders ns) = omega arith
 one_at_most s (table ns) = omega arith
@@ -66,37 +66,19 @@ one_at_most s (same ns n) = omega arith
 one_at_most s (join m n) = omega arith
 one_at_most s (bar l h) = omega arith
 
-pub rows_few : (s : Standing) (ts : List Told) → length (all_rows s ts) ≤ length ts
-rows_few s [] = omega arith
-rows_few s (t ∷ ts) = omega (arith, rows_few (after s t) ts, one_at_most s t, length-append (line_rows s t) (all_rows (after s t) ts))
-
-pub spell_long : (ts : List Told) → length ts ≤ length (spell_all ts)
-spell_long [] = omega arith
-spell_long (t ∷ ts) = omega (arith, spell_long ts, length-append (spell t) (10 ∷ spell_all ts))
-
--- the lists stay short
-
-at_most : (m n : ℕ) → (m < n → ⊥) → n ≤ m
-at_most m n h = ⊎_elim (λ l. absurd (h l)) (λ g. g) (order m n)
-
-pub kept_more : (s : Standing) (t : Told) → Kept s → Passes AnyRow s t → Kept (after s t)
-kept_more s (locks ns) k p = record { few_locks = at_most 64 _ (p TooMany); few_holders = k.few_holders }
-kept_more s (holders ns) k p = record { few_locks = k.few_locks; few_holders = at_most 16 _ (p TooMany) }
-kept_more s (table ns) k p = record { few_locks = k.few_locks; few_holders = k.few_holders }
-kept_more s (row ns n) k p = record { few_locks = k.few_locks; few_holders = k.few_holders }
-kept_more s (differ ns n) k p = record { few_locks = k.few_locks; few_holders = k.few_holders }
-kept_more s (same ns n) k p = record { few_locks = k.few_locks; few_holders = k.few_holders }
-kept_more s (join m n) k p = record { few_locks = k.few_locks; few_holders = k.few_holders }
-kept_more s (bar l h) k p = record { few_locks = k.few_locks; few_holders = k.few_holders }
+pub still_fits : (s next : Standing) (t : Told) (e : Entry) (text rest : List ℕ) (place : ℕ) → Taken s t next e → Begins t text rest → s.rows + length text ≤ 65535 → place + length text ≤ 65536 → (next.rows + length rest ≤ 65535) × (place + 1 + length rest ≤ 65536)
+still_fits s next t e text rest place k b rows places =
+    let l : length rest + 1 ≤ length text = omega (arith, ap length b.is, length-append (spell t) (10 ∷ rest)) in
+    (omega (arith, ap (λ q. q.rows) k.moves, one_at_most s t), omega arith)
 
 -- with a row list
 
-pub passes_with : (Bad : ℕ → RowRecord → Type 0) (s : Standing) (t : Told) → Passes AnyRow s t → (HasNoRoom Bad s t → ⊥) → Passes Bad s t
-passes_with Bad s t p has Misplaced m = p Misplaced m
-passes_with Bad s t p has TooMany m = p TooMany m
-passes_with Bad s t p has WrongName m = p WrongName m
-passes_with Bad s t p has NotRising m = p NotRising m
-passes_with Bad s t p has NoRoom m = has m
+pub passes_with : (Bad Other : ℕ → RowRecord → Type 0) (s : Standing) (t : Told) → Passes Bad s t → (HasNoRoom Other s t → ⊥) → Passes Other s t
+passes_with Bad Other s t p has Misplaced m = p Misplaced m
+passes_with Bad Other s t p has TooMany m = p TooMany m
+passes_with Bad Other s t p has WrongName m = p WrongName m
+passes_with Bad Other s t p has NotRising m = p NotRising m
+passes_with Bad Other s t p has NoRoom m = has m
 
 pub stops_with : (Bad : ℕ → RowRecord → Type 0) (s : Standing) (place : ℕ) (rest : List ℕ) (e : Refusal) → Stops AnyRow s place rest e → Stops Bad s place rest e
 stops_with Bad s place rest e (no_line some none is) = no_line some none is
@@ -120,31 +102,20 @@ pub record HasRow (Bad : ℕ → RowRecord → Type 0) (s : Standing) (t : Told)
   pub bad : Bad s.rows r → HasNoRoom Bad s t
   pub only_bad : HasNoRoom Bad s t → Bad s.rows r
 
--- a number for each form of an entry, to tell them apart
-form : Entry → ℕ
-form entry.Names = 0
-form (entry.Table s) = 1
-form (entry.Row r) = 2
-form (entry.Differ s c) = 3
-form (entry.Same s c) = 4
-form (entry.Join m n) = 5
-form (entry.Bar l h) = 6
-
 same_row : (r q : RowRecord) → ◌≡◌ {A = Entry} (entry.Row r) (entry.Row q) → q ≡ r
 same_row r q e = cc
 
 pub has_row : (Bad : ℕ → RowRecord → Type 0) (s : Standing) (t : Told) (r : RowRecord) → Adds s t (entry.Row r) → HasRow Bad s t r
-unfolding form
-has_row Bad s (locks ns) r a = absurd (omega (arith, ap form a))
-has_row Bad s (holders ns) r a = absurd (omega (arith, ap form a))
-has_row Bad s (table ns) r a = absurd (omega (arith, ap form a.2))
+has_row Bad s (locks ns) r a = absurd (let e = a in cc)
+has_row Bad s (holders ns) r a = absurd (let e = a in cc)
+has_row Bad s (table ns) r a = absurd (let e = a.2 in cc)
 has_row Bad s (row ns n) r a =
     let e = same_row r _ a in
     record { rows = ap (λ x. x ∷ []) e; bad = subst (Bad s.rows) (sym e); only_bad = subst (Bad s.rows) e }
-has_row Bad s (differ ns n) r a = absurd (omega (arith, ap form a.2))
-has_row Bad s (same ns n) r a = absurd (omega (arith, ap form a.2))
-has_row Bad s (join m n) r a = absurd (omega (arith, ap form a))
-has_row Bad s (bar l h) r a = absurd (omega (arith, ap form a))
+has_row Bad s (differ ns n) r a = absurd (let e = a.2 in cc)
+has_row Bad s (same ns n) r a = absurd (let e = a.2 in cc)
+has_row Bad s (join m n) r a = absurd (let e = a in cc)
+has_row Bad s (bar l h) r a = absurd (let e = a in cc)
 
 -- the row list with one row more
 
@@ -161,14 +132,7 @@ put_row xs before k w e h =
 
 pass_any : (Bad : ℕ → RowRecord → Type 0) (s : Standing) (ts : List Told) → AllPass Bad s ts → AllPass AnyRow s ts
 pass_any Bad s [] a = tt
-pass_any Bad s (t ∷ ts) a = (passes_any s t a.0, pass_any Bad (after s t) ts a.1)
-  where
-    passes_any : (s : Standing) (t : Told) → Passes Bad s t → Passes AnyRow s t
-    passes_any s t p Misplaced m = p Misplaced m
-    passes_any s t p TooMany m = p TooMany m
-    passes_any s t p WrongName m = p WrongName m
-    passes_any s t p NotRising m = p NotRising m
-    passes_any s t p NoRoom m = room s t m
+pass_any Bad s (t ∷ ts) a = (passes_with Bad AnyRow s t a.0 (room s t), pass_any Bad (after s t) ts a.1)
 
 pub accepted_any : (Bad : ℕ → RowRecord → Type 0) (text : List ℕ) (ts : List Told) → Accepted Bad text ts → Accepted AnyRow text ts
 accepted_any Bad text ts a = record {

@@ -2,9 +2,9 @@
 use Rattle.std.specs.Prelude.{◌≡◌, ℕ, ◌^◌, ◌<◌, Bool, true, List, [], ◌∷◌, ◌++◌, map, length, None, Option, slice_index_or}
 use Rattle.weighing.specs.Charges.{Charge}
 use Rattle.book.specs.Books.{Meaning}
+use Rattle.aggregation.specs.declared.join.Join.{Join}
 use Rattle.book.specs.Layers.{bar_put}
 use Rattle.lines.specs.Told.{Told, locks, holders, table, row, differ, same, join, bar}
-use Rattle.filing.specs.declared.join.Join.{Join}
 use Rattle.filing.specs.declared.rule.RuleForm.{RuleForm}
 use Rattle.filing.specs.declared.rule.RuleForm.TheVariants as form
 use Rattle.filing.specs.declared.rule.Rule.{Rule}

@@ -1,6 +1,7 @@
 -- Which line may follow which.
 use Rattle.std.specs.Prelude.{ℕ, Bool, true, false, ◌||◌, List, [], ◌∷◌, Some, None, Option, ◌==◌}
 use Rattle.lines.specs.declared.kind.Kind.{Kind}
+use Rattle.filing.specs.declared.follow.Follow.{Follow}
 use Rattle.lines.specs.declared.kind.Kind.TheVariants.{Locks, Holders, Table, Row, Differ, Same, Join, Bar}
 
 -- the kinds that may come after a kind; None is the start of the text
@@ -45,3 +46,7 @@ may_end (Some Differ) = true
 may_end (Some Same) = true
 may_end (Some Join) = true
 may_end (Some Bar) = true
+
+-- what may come after a kind, one truth value for each kind and one for the end
+abbrev pub follow_of : Option Kind → Follow
+follow_of b = record { locks = may_follow b Locks; holders = may_follow b Holders; table = may_follow b Table; row = may_follow b Row; differ = may_follow b Differ; same = may_follow b Same; join = may_follow b Join; bar = may_follow b Bar; end = may_end b }

@@ -19,6 +19,19 @@ pub record Twice (ns : List (List ℕ)) : Type 0 where
   pub within : other < length ns
   pub equal : get_or ns one [] ≡ slice_index_or ns other []
 
+-- at most so many names, none of them twice
+pub record Lists (most : ℕ) (ns : List (List ℕ)) : Type 0 where
+  pub few : length ns ≤ most
+  pub apart : Twice ns → ⊥
+
+-- the first cause why names are not that
+abbrev pub Unlists : RecordCause → ℕ → List (List ℕ) → Type 0
+Unlists Misplaced most ns = ⊥
+Unlists TooMany most ns = most < length ns
+Unlists WrongName most ns = (length ns ≤ most) × Twice ns
+Unlists NotRising most ns = ⊥
+Unlists NoRoom most ns = ⊥
+
 -- one of the names is not in the list
 pub record Unlisted (list ns : List (List ℕ)) : Type 0 where
   pub place : ℕ

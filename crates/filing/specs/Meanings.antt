@@ -1,15 +1,14 @@
 -- What an accepted text means.
-use Rattle.std.specs.Prelude.{◌≡◌, ℕ, false, List, [], map, length, MatchOption}
+use Rattle.std.specs.Prelude.{◌≡◌, ℕ, false, List, map, length, Result, MatchResult}
 use Rattle.book.specs.Layers.{bar_at}
 use Rattle.lines.specs.Told.{Told}
 use Rattle.filing.specs.declared.draft.Draft.{Draft}
 use Rattle.filing.specs.declared.names.NameList.{NameList}
 use Rattle.filing.specs.declared.record.RowRecord.{RowRecord}
 use Rattle.filing.specs.declared.second.Filing.{Filing}
-use Rattle.filing.specs.declared.second.Reading.{Reading}
+use Rattle.book.specs.declared.refusal.Refusal.{Refusal}
 use Rattle.filing.specs.Standing.{at_start, after_all, all_rows}
 use Rattle.filing.specs.Contents.{scopes_of, rules_of, joins_of, bars_of, barred_in_turn, BookOf, ruled_by}
-use Rattle.filing.specs.Drafts.{noted_joins}
 use Rattle.filing.specs.Reading.{OtherRow, Accepted, Refused}
 use Rattle.filing.specs.Resolving.{names_of}
 use Rattle.filing.specs.Rules.{by_rules}
@@ -38,20 +37,11 @@ pub record Means (ts : List Told) (f : Filing) : Type 0 where
   pub holders : names_of f.holders.names ≡ holder_names ts
   pub tables : BookOf (written f.written) (length (lock_names ts)) (length (holder_names ts)) (scopes_of ts) (listed (all_rows at_start ts))
   pub rules : BookOf (by_rules f.rules) (length (lock_names ts)) (length (holder_names ts)) (map (λ r. r.scope) (rules_of ts)) (ruled_by (length (holder_names ts)) (rules_of ts))
-  pub joins : noted_joins f.joins ≡ joins_of ts
+  pub joins : f.joins.items ≡ joins_of ts
   pub bars : bar_at f.bars ≡ barred_in_turn (λ lock holder. false) (bars_of ts)
 
--- no names, no tables, no rules, no joins and no bars
-pub record Blank (f : Filing) : Type 0 where
-  pub locks : names_of f.locks.names ≡ []
-  pub holders : names_of f.holders.names ≡ []
-  pub tables : BookOf (written f.written) 1 1 [] (listed [])
-  pub rules : BookOf (by_rules f.rules) 1 1 [] (ruled_by 1 [])
-  pub joins : noted_joins f.joins ≡ []
-  pub bars : bar_at f.bars ≡ (λ lock holder. false)
-
--- The second call: without a refusal the text is some lines whose rows stand at the front of the list, and the filing
--- is what they mean; with one the text is refused so after some lines, and the filing is blank.
-pub record SecondCall (text : List ℕ) (list : List RowRecord) (r : Reading) : Type 0 where
+-- The second call: the text is some lines whose rows stand at the front of the list, and the filing is what they
+-- mean; or the text is refused so after some lines.
+pub record SecondCall (text : List ℕ) (list : List RowRecord) (r : Result Filing Refusal) : Type 0 where
   pub lines : List Told
-  pub result : MatchOption r.refusal (Accepted (OtherRow list) text lines × Means lines r.filing) (λ e. Refused (OtherRow list) text e lines × Blank r.filing)
+  pub result : MatchResult r (λ filing. Accepted (OtherRow list) text lines × Means lines filing) (λ e. Refused (OtherRow list) text e lines)

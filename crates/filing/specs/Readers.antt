@@ -1,26 +1,26 @@
 -- What a reader has read, and how it judges a line.
-use Rattle.std.specs.Prelude.{◌≡◌, ℕ, ◌<◌, ◌≤◌, List, length, Result, MatchResult}
+use Rattle.std.specs.Prelude.{◌≡◌, ℕ, ◌<◌, ◌≤◌, true, List, length, Some, Option, Result, MatchOption, MatchResult, ◌≢◌}
 use Rattle.book.specs.Scopes.{named}
 use Rattle.book.specs.declared.scope.Scope.{Scope}
 use Rattle.book.specs.declared.refusal.RecordCause.{RecordCause}
 use Rattle.book.specs.Lists.{Rising, Below}
 use Rattle.book.specs.declared.refusal.RecordCause.TheVariants.{Misplaced, TooMany, WrongName, NotRising, NoRoom}
-use Rattle.lines.specs.Told.{Told, locks, holders, table, row, differ, same, join, bar}
+use Rattle.lines.specs.Told.{Told, locks, holders, table, row, differ, same, join, bar, kind_of}
+use Rattle.lines.specs.declared.kind.Kind.{Kind}
+use Rattle.lines.specs.declared.kind.Kind.TheVariants as kind
 use Rattle.filing.specs.declared.record.RowRecord.{RowRecord}
 use Rattle.filing.specs.declared.reader.Entry.{Entry}
 use Rattle.filing.specs.declared.reader.Entry.TheVariants as entry
 use Rattle.filing.specs.declared.reader.Reader.{Reader}
+use Rattle.filing.specs.declared.rule.RuleForm.{RuleForm}
+use Rattle.filing.specs.declared.rule.RuleForm.TheVariants as form
+use Rattle.filing.specs.Follows.{may_follow}
 use Rattle.filing.specs.Standing.{Standing, place_of, places, after, record_of, charge_of}
 use Rattle.filing.specs.Judging.{Unlisted, Falls, FirstMet, Passes}
 use Rattle.filing.specs.Resolving.{names_of}
 
 abbrev pub standing_of : Reader → Standing
-standing_of r = record { before = r.before; locks = names_of r.locks; holders = names_of r.holders; tables = r.tables; width = r.width; rows = r.rows; last_row = r.last_row; joins = r.joins; bar_lock = r.bar_lock; bar_holder = r.bar_holder }
-
--- the lists are not too long
-pub record Kept (s : Standing) : Type 0 where
-  pub few_locks : length s.locks ≤ 64
-  pub few_holders : length s.holders ≤ 16
+standing_of r = record { before = r.before; locks = names_of r.locks; holders = names_of r.holders; tables = r.tables; width = r.width; rows = r.rows; last_row = r.last_row; joins = r.joins; bar_lock = r.last_bar.0; bar_holder = r.last_bar.1 }
 
 -- no row is bad: the row list is left aside
 abbrev pub AnyRow : ℕ → RowRecord → Type 0
@@ -37,8 +37,8 @@ Adds s (locks ns) e = e ≡ entry.Names
 Adds s (holders ns) e = e ≡ entry.Names
 Adds s (table ns) e = (scope : Scope) × Over s ns scope × (e ≡ entry.Table scope)
 Adds s (row ns n) e = e ≡ entry.Row (record_of s ns n)
-Adds s (differ ns n) e = (scope : Scope) × Over s ns scope × (e ≡ entry.Differ scope (charge_of n))
-Adds s (same ns n) e = (scope : Scope) × Over s ns scope × (e ≡ entry.Same scope (charge_of n))
+Adds s (differ ns n) e = (scope : Scope) × Over s ns scope × (e ≡ entry.Rule scope (record { form = form.Differ; charge = charge_of n }))
+Adds s (same ns n) e = (scope : Scope) × Over s ns scope × (e ≡ entry.Rule scope (record { form = form.Same; charge = charge_of n }))
 Adds s (join m n) e = e ≡ entry.Join m n
 Adds s (bar l h) e = e ≡ entry.Bar (place_of s.locks l) (place_of s.holders h)
 
@@ -66,3 +66,24 @@ pub record Taken (s : Standing) (t : Told) (next : Standing) (e : Entry) : Type 
 -- the judgement of a line: it is taken, or the first condition that it meets refuses it
 abbrev pub Judged : Standing → Told → Standing → Result Entry RecordCause → Type 0
 Judged s t next r = MatchResult r (λ e. Taken s t next e) (λ cause. FirstMet AnyRow cause s t)
+
+-- what stands, with this kind of line before
+abbrev pub seen : Standing → Kind → Standing
+seen s k = record { before = Some k; locks = s.locks; holders = s.holders; tables = s.tables; width = s.width; rows = s.rows; last_row = s.last_row; joins = s.joins; bar_lock = s.bar_lock; bar_holder = s.bar_holder }
+
+-- the judgement of a line that may follow, before its kind is noted
+abbrev pub Entered : Standing → Told → Standing → Result Entry RecordCause → Type 0
+Entered s t next r = may_follow s.before (kind_of t) ≡ true → Judged s t (seen next (kind_of t)) r
+
+-- the line of a rule of this form
+abbrev pub rule_line : RuleForm → List (List ℕ) → ℕ → Told
+rule_line form.Differ ns n = differ ns n
+rule_line form.Same ns n = same ns n
+
+-- the number of the row before, if the line before is a row
+abbrev pub LastRow : Standing → Option ℕ → Type 0
+LastRow s last = MatchOption last (s.before ≢ Some kind.Row) (λ k. (s.before ≡ Some kind.Row) × (k ≡ s.last_row))
+
+-- the bar before, if the line before is a bar
+abbrev pub LastBar : Standing → Option (ℕ × ℕ) → Type 0
+LastBar s last = MatchOption last (s.before ≢ Some kind.Bar) (λ p. (s.before ≡ Some kind.Bar) × (p ≡ (s.bar_lock, s.bar_holder)))

@@ -1,11 +1,11 @@
 -- Names of a line by their numbers in a list.
-use Rattle.std.specs.Prelude.{◌≡◌, ℕ, ◌<◌, ◌≤◌, List, [], length, take, Some, None, Option, ◌≢◌, slice_index_or}
+use Rattle.std.specs.Prelude.{◌≡◌, ℕ, ◌<◌, ◌≤◌, List, [], length, Some, None, Option, ◌≢◌, slice_index_or}
 use Rattle.book.specs.Lists.{Below}
 use Rattle.std.specs.List.{AllByRecursion}
+use Rattle.arrayvec.specs.ArrayVec.{ArrayVec}
 use Rattle.lines.specs.Names.{Name}
 use Rattle.lines.specs.Told.{held}
 use Rattle.lines.specs.declared.names.Names.{Names}
-use Rattle.filing.specs.declared.resolve.Places.{Places}
 use Rattle.filing.specs.Standing.{place_of, places}
 
 -- the names of a list that may not have been read yet
@@ -18,16 +18,17 @@ pub record Found (list : List (List ℕ)) (name : List ℕ) (i : ℕ) : Type 0 w
   pub is : i ≡ place_of list name
   pub within : i < length list
 
--- the numbers at the front of the places
-abbrev pub noted : Places → List ℕ
-noted p = take p.len p.at
+-- the name at a place of the list stands at an earlier place too
+pub record Repeats (ns : List (List ℕ)) (other : ℕ) : Type 0 where
+  pub one : ℕ
+  pub apart : one < other
+  pub within : other < length ns
+  pub equal : slice_index_or ns one [] ≡ slice_index_or ns other []
 
 -- they are the numbers of the names, which are all in the list
-pub record Noted (list ns : List (List ℕ)) (p : Places) : Type 0 where
-  pub few : p.len ≤ 4
-  pub size : length p.at ≡ 4
-  pub is : noted p ≡ places list ns
-  pub below : Below (length list) (noted p)
+pub record Noted (list ns : List (List ℕ)) (p : ArrayVec ℕ) : Type 0 where
+  pub is : p.items ≡ places list ns
+  pub below : Below (length list) p.items
 
 -- at most so many names, each well formed, none twice
 pub record Listing (most : ℕ) (ns : List (List ℕ)) : Type 0 where

@@ -35,5 +35,6 @@ pub record Stepped (p q : Scan) (e : Entry) : Type 0 where
 abbrev pub Halted : Scan → Type 0
 Halted p = Ended p ⊎ ((e : Refusal) × Stops AnyRow (standing_at p) p.place p.rest.now e)
 
+-- the next line, the end, or what stops the text; the last two leave the scan as it was
 abbrev pub Scanned : Scan → Scan → Result (Option Entry) Refusal → Type 0
-Scanned p q r = MatchResult r (λ o. MatchOption o (Ended p) (λ e. Stepped p q e)) (λ e. Stops AnyRow (standing_at p) p.place p.rest.now e)
+Scanned p q r = MatchResult r (λ o. MatchOption o (Ended p × (q ≡ p)) (λ e. Stepped p q e)) (λ e. Stops AnyRow (standing_at p) p.place p.rest.now e × (q ≡ p))

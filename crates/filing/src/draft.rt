@@ -2,19 +2,19 @@
 ghost use Rattle.std.specs.Prelude.{◌<◌, ◌≤◌, []};
 ghost use Rattle.filing.specs.Drafts.{Holds, RoomFor, Extends};
 
-use crate::join::Join;
-use crate::joins::Joins;
 use crate::reader::Entry;
 use crate::record::RowRecord;
-use crate::rule::{Rule, RuleBook, RuleForm};
+use crate::rule::RuleBook;
 use crate::written::WrittenBook;
+use aggregation::Join;
+use arrayvec::ArrayVec;
 use book::Barred;
 
 #[derive(Drop)]
 pub(crate) struct Draft<'a> {
     pub(crate) written: WrittenBook<'a>,
     pub(crate) rules: RuleBook,
-    pub(crate) joins: Joins,
+    pub(crate) joins: ArrayVec<Join, 63>,
     pub(crate) bars: Barred<()>,
 }
 
@@ -27,7 +27,7 @@ impl<'a> Draft<'a> {
         Draft {
             written: WrittenBook::new(locks, holders, rows),
             rules: RuleBook::new(locks, holders),
-            joins: Joins::new(),
+            joins: ArrayVec::new(),
             bars: Barred::new(()),
         }
     }
@@ -39,20 +39,7 @@ impl<'a> Draft<'a> {
     {
         match entry {
             Entry::Table(scope) => self.written.add_table(scope),
-            Entry::Differ(scope, charge) => self.rules.add_rule(
-                scope,
-                Rule {
-                    form: RuleForm::Differ,
-                    charge,
-                },
-            ),
-            Entry::Same(scope, charge) => self.rules.add_rule(
-                scope,
-                Rule {
-                    form: RuleForm::Same,
-                    charge,
-                },
-            ),
+            Entry::Rule(scope, rule) => self.rules.add_rule(scope, rule),
             Entry::Join(left, right) => self.joins.push(Join { left, right }),
             Entry::Bar(lock, holder) => {
                 self.bars.set(lock, holder, true);

@@ -1,6 +1,6 @@
 // Which line may follow which, and after which the text may end.
 ghost use Rattle.std.specs.Prelude.{◌≡◌};
-ghost use Rattle.filing.specs.Follows.{may_follow, may_end};
+ghost use Rattle.filing.specs.Follows.{may_follow, may_end, follow_of};
 
 use lines::Kind;
 
@@ -18,7 +18,7 @@ struct Follow {
     end: bool,
 }
 
-// The first is for the start of the text, then one for each kind of the line before.
+// The first is for the start of the text, then one for each kind of the line before (a form the project fixes).
 const MAY_FOLLOW: [Follow; 9] = [
     Follow {
         locks: true,
@@ -121,14 +121,18 @@ const MAY_FOLLOW: [Follow; 9] = [
     },
 ];
 
+// What may come after a line of this kind, or at the start.
+fn after(before: Option<Kind>) -> Follow
+    ensures { result ≡ follow_of before }
+{
+    MAY_FOLLOW[before.map_or(0, |kind| kind as usize + 1)]
+}
+
 // Whether a line of this kind may follow.
 pub(crate) fn may_follow(before: Option<Kind>, kind: Kind) -> bool
     ensures { result ≡ may_follow before kind }
 {
-    let row = match before {
-        None => MAY_FOLLOW[0],
-        Some(k) => MAY_FOLLOW[k as usize + 1],
-    };
+    let row = after(before);
     match kind {
         Kind::Locks => row.locks,
         Kind::Holders => row.holders,
@@ -145,9 +149,5 @@ pub(crate) fn may_follow(before: Option<Kind>, kind: Kind) -> bool
 pub(crate) fn may_end(before: Option<Kind>) -> bool
     ensures { result ≡ may_end before }
 {
-    let row = match before {
-        None => MAY_FOLLOW[0],
-        Some(k) => MAY_FOLLOW[k as usize + 1],
-    };
-    row.end
+    after(before).end
 }

@@ -4,15 +4,11 @@ ghost use Rattle.filing.specs.Written.{RowsListed};
 ghost use Rattle.filing.specs.Rules.{RowsRuled};
 
 // A row of a written book has the charge of its first record, and is absent if it has none.
-pub fn rows_listed() -> u8
+pub fn rows_listed()
     ensures { RowsListed }
-{
-    0
-}
+{}
 
 // A row of a rule is permitted exactly when its two holders differ, or are the same, as the rule's form wants.
-pub fn rows_ruled() -> u8
+pub fn rows_ruled()
     ensures { RowsRuled }
-{
-    0
-}
+{}

@@ -1,18 +1,16 @@
 // The reader: what the lines so far say, and how the next line is judged by it.
-ghost use Rattle.std.specs.Prelude.{◌≡◌, ◌+◌, ◌<◌, ◌≤◌, true, false, length, Some, MatchResult};
-ghost use Rattle.weighing.specs.Tests.{Tells};
-ghost use Rattle.lines.specs.Told.{Told, Good, meant, held, kind_of};
-ghost use Rattle.lines.specs.Told.{locks as told_locks, holders as told_holders, table as told_table, differ as told_differ, same as told_same, row as told_row, join as told_join, bar as told_bar};
-ghost use Rattle.lines.specs.declared.kind.Kind.TheVariants as kind;
-ghost use Rattle.filing.specs.Follows.{may_follow, may_end};
-ghost use Rattle.filing.specs.Standing.{at_start, add_table, charge_of};
-ghost use Rattle.filing.specs.Judging.{NotAbove};
+ghost use Rattle.std.specs.Prelude.{◌≡◌, ◌<◌, ◌≤◌, length, MatchResult};
+ghost use Rattle.lines.specs.Told.{Good, meant, held};
+ghost use Rattle.lines.specs.Told.{table as told_table, row as told_row, join as told_join, bar as told_bar, locks as told_locks, holders as told_holders};
+ghost use Rattle.filing.specs.Follows.{may_end};
+ghost use Rattle.filing.specs.Judging.{Lists, Unlists};
+ghost use Rattle.filing.specs.Standing.{at_start, charge_of};
 ghost use Rattle.filing.specs.Resolving.{names_of};
-ghost use Rattle.filing.specs.Readers.{standing_of, Kept, Judged, Scoped, Unscoped};
 
 use crate::follow::{may_end, may_follow};
 use crate::record::RowRecord;
 use crate::resolve::{count_in, find_in, has_twice, number_of, places_in};
+use crate::rule::{Rule, RuleForm};
 use book::{RecordCause, Scope};
 use lines::{Kind, Line, Names};
 use weighing::Charge;
@@ -26,9 +24,8 @@ pub(crate) enum Entry {
     Table(Scope),
     // A row of the last table.
     Row(RowRecord),
-    // A rule that wants two holders to differ, and one that wants them the same.
-    Differ(Scope, Charge),
-    Same(Scope, Charge),
+    // A rule on these locks.
+    Rule(Scope, Rule),
     // A join of two nodes.
     Join(usize, usize),
     // A bar of a lock and a holder.
@@ -48,12 +45,15 @@ pub(crate) struct Reader<'a> {
     rows: usize,
     last_row: usize,
     joins: usize,
-    // The last bar.
-    bar_lock: usize,
-    bar_holder: usize,
+    // The lock and the holder of the last bar.
+    last_bar: (usize, usize),
+    ghost few_locks: { length (names_of locks) ≤ 64 },
+    ghost few_holders: { length (names_of holders) ≤ 16 },
 }
 
 impl<'a> Reader<'a> {
+    ghost use Rattle.filing.specs.Readers.{standing_of, Judged, Entered, Scoped, Unscoped, LastRow, LastBar, rule_line};
+
     // Nothing is read yet.
     pub(crate) fn new() -> Reader<'a>
         ensures { standing_of result ≡ at_start }
@@ -67,174 +67,136 @@ impl<'a> Reader<'a> {
             rows: 0,
             last_row: 0,
             joins: 0,
-            bar_lock: 0,
-            bar_holder: 0,
+            last_bar: (0, 0),
         }
     }
 
-    // The list of locks.
+    // A line's enum holds plain values (a form the project fixes), so what a line may hold is required below.
+    // Only a scan, which has the text, knows that one row more can be counted; so that is required too.
+
+    // The list of locks. Only the field and the limit set it apart from the other list: `list_of` does the work.
     fn take_locks(&mut self, names: Names<'a>) -> Result<Entry, RecordCause>
-        requires { may_follow self.old.before kind.Locks ≡ true }
-        ensures { Judged (standing_of self.old) (told_locks (held names.entry)) (standing_of self.new) result }
+        ensures { Entered (standing_of self.old) (told_locks (held names.entry)) (standing_of self.new) result }
     {
-        if names.count() > 64 {
-            return Err(RecordCause::TooMany);
-        }
-        if has_twice(names) {
-            return Err(RecordCause::WrongName);
-        }
-        self.locks = Some(names);
-        self.before = Some(Kind::Locks);
+        self.locks = Some(list_of(names, 64)?);
         Ok(Entry::Names)
     }
 
     // The list of holders.
     fn take_holders(&mut self, names: Names<'a>) -> Result<Entry, RecordCause>
-        requires { may_follow self.old.before kind.Holders ≡ true }
-        ensures { Judged (standing_of self.old) (told_holders (held names.entry)) (standing_of self.new) result }
+        ensures { Entered (standing_of self.old) (told_holders (held names.entry)) (standing_of self.new) result }
     {
-        if names.count() > 16 {
-            return Err(RecordCause::TooMany);
-        }
-        if has_twice(names) {
-            return Err(RecordCause::WrongName);
-        }
-        self.holders = Some(names);
-        self.before = Some(Kind::Holders);
+        self.holders = Some(list_of(names, 16)?);
         Ok(Entry::Names)
     }
 
-    // A scope over these locks.
+    // A scope over these locks, for one table more.
     fn scope_of(&self, locks: Names) -> Result<Scope, RecordCause>
-        requires { (length (names_of self.now.locks) ≤ 64) × (length (held locks) ≤ 4) }
+        requires { length (held locks) ≤ 4 }
         ensures { MatchResult result (λ scope. Scoped (standing_of self.now) (held locks.entry) scope) (λ cause. Unscoped cause (standing_of self.now) (held locks.entry)) }
     {
         if self.tables >= 64 {
             return Err(RecordCause::TooMany);
         }
-        let Some(places) = places_in(self.locks, locks) else {
-            return Err(RecordCause::WrongName);
-        };
-        match Scope::of(&places.at[0..places.len]) {
-            Some(scope) => Ok(scope),
-            None => Err(RecordCause::NotRising),
-        }
+        let places = places_in(self.locks, locks).ok_or(RecordCause::WrongName)?;
+        Scope::of(places.as_slice()).ok_or(RecordCause::NotRising)
     }
 
     // A join of two nodes.
     fn take_join(&mut self, left: usize, right: usize) -> Result<Entry, RecordCause>
-        requires { may_follow self.old.before kind.Join ≡ true }
-        ensures { Judged (standing_of self.old) (told_join left right) (standing_of self.new) result }
+        ensures { Entered (standing_of self.old) (told_join left right) (standing_of self.new) result }
     {
         if self.joins >= 63 {
             return Err(RecordCause::TooMany);
         }
         self.joins += 1;
-        self.before = Some(Kind::Join);
         Ok(Entry::Join(left, right))
-    }
-
-    // One table more, over so many locks.
-    fn add_table(&mut self, kind: Kind, width: usize)
-        requires { self.old.tables < 64 }
-        ensures { standing_of self.new ≡ add_table (standing_of self.old) kind width }
-    {
-        self.before = Some(kind);
-        self.tables += 1;
-        self.width = width;
     }
 
     // A table over these locks.
     fn take_table(&mut self, locks: Names) -> Result<Entry, RecordCause>
-        requires follows { may_follow self.old.before kind.Table ≡ true }
-        requires few { (length (names_of self.old.locks) ≤ 64) × (length (held locks) ≤ 4) }
-        ensures { Judged (standing_of self.old) (told_table (held locks.entry)) (standing_of self.new) result }
+        requires { length (held locks) ≤ 4 }
+        ensures { Entered (standing_of self.old) (told_table (held locks.entry)) (standing_of self.new) result }
     {
         let scope = self.scope_of(locks)?;
-        self.add_table(Kind::Table, locks.count());
+        self.tables += 1;
+        self.width = locks.count();
         Ok(Entry::Table(scope))
     }
 
-    // A rule that wants two holders to differ.
-    fn take_differ(&mut self, locks: Names, charge: u32) -> Result<Entry, RecordCause>
-        requires follows { may_follow self.old.before kind.Differ ≡ true }
-        requires few { (length (names_of self.old.locks) ≤ 64) × ((length (held locks) ≤ 4) × (charge ≤ 1000000)) }
-        ensures { Judged (standing_of self.old) (told_differ (held locks.entry) charge) (standing_of self.new) result }
+    // A rule of this form on these locks.
+    fn take_rule(&mut self, form: RuleForm, locks: Names, charge: u32) -> Result<Entry, RecordCause>
+        requires { (length (held locks) ≤ 4) × (charge ≤ 1000000) }
+        ensures { Entered (standing_of self.old) (rule_line form (held locks.entry) charge) (standing_of self.new) result }
     {
         let scope = self.scope_of(locks)?;
-        self.add_table(Kind::Differ, locks.count());
-        Ok(Entry::Differ(scope, charge_of(charge)))
+        self.tables += 1;
+        self.width = locks.count();
+        Ok(Entry::Rule(
+            scope,
+            Rule {
+                form,
+                charge: charge_of(charge),
+            },
+        ))
     }
 
-    // A rule that wants them the same.
-    fn take_same(&mut self, locks: Names, charge: u32) -> Result<Entry, RecordCause>
-        requires follows { may_follow self.old.before kind.Same ≡ true }
-        requires few { (length (names_of self.old.locks) ≤ 64) × ((length (held locks) ≤ 4) × (charge ≤ 1000000)) }
-        ensures { Judged (standing_of self.old) (told_same (held locks.entry) charge) (standing_of self.new) result }
+    // A row of the last table, above the row before it in that table, if there is one.
+    fn take_row(
+        &mut self,
+        holders: Names,
+        charge: u32,
+        last: Option<usize>,
+    ) -> Result<Entry, RecordCause>
+        requires few { (length (held holders) ≤ 4) × ((charge ≤ 1000000) × (self.old.rows < 65536)) }
+        requires last { LastRow (standing_of self.old) last }
+        ensures { Entered (standing_of self.old) (told_row (held holders.entry) charge) (standing_of self.new) result }
     {
-        let scope = self.scope_of(locks)?;
-        self.add_table(Kind::Same, locks.count());
-        Ok(Entry::Same(scope, charge_of(charge)))
-    }
-
-    // A row of the last table; `again` says whether a row of it came before.
-    fn take_row(&mut self, holders: Names, charge: u32, again: bool) -> Result<Entry, RecordCause>
-        requires follows { may_follow self.old.before kind.Row ≡ true }
-        requires few { (length (names_of self.old.holders) ≤ 16) × ((length (held holders) ≤ 4) × ((charge ≤ 1000000) × (self.old.rows < 65536))) }
-        requires tells { Tells (self.old.before ≡ Some kind.Row) again }
-        ensures { Judged (standing_of self.old) (told_row (held holders.entry) charge) (standing_of self.new) result }
-    {
-        let Some(places) = places_in(self.holders, holders) else {
-            return Err(RecordCause::WrongName);
-        };
-        let row = number_of(places, count_in(self.holders));
-        if places.len != self.width {
+        let places = places_in(self.holders, holders).ok_or(RecordCause::WrongName)?;
+        let row = number_of(&places, count_in(self.holders));
+        if places.len() != self.width {
             return Err(RecordCause::NotRising);
         }
-        if again && row <= self.last_row {
+        if let Some(last) = last
+            && row <= last
+        {
             return Err(RecordCause::NotRising);
         }
-        let table = self.tables.saturating_sub(1);
-        self.before = Some(Kind::Row);
         self.rows += 1;
         self.last_row = row;
         Ok(Entry::Row(RowRecord {
-            table,
+            table: self.tables.saturating_sub(1),
             row,
             charge: charge_of(charge),
         }))
     }
 
-    // A bar; `again` says whether one came before.
-    fn take_bar(&mut self, lock: &[u8], holder: &[u8], again: bool) -> Result<Entry, RecordCause>
-        requires follows { may_follow self.old.before kind.Bar ≡ true }
-        requires tells { Tells (self.old.before ≡ Some kind.Bar) again }
-        ensures { Judged (standing_of self.old) (told_bar lock.now holder.now) (standing_of self.new) result }
+    // A bar, above the bar before it, if there is one: the lock counts before the holder.
+    fn take_bar(
+        &mut self,
+        lock: &[u8],
+        holder: &[u8],
+        last: Option<(usize, usize)>,
+    ) -> Result<Entry, RecordCause>
+        requires { LastBar (standing_of self.old) last }
+        ensures { Entered (standing_of self.old) (told_bar lock.now holder.now) (standing_of self.new) result }
     {
-        let Some(lock) = find_in(self.locks, lock) else {
-            return Err(RecordCause::WrongName);
-        };
-        let Some(holder) = find_in(self.holders, holder) else {
-            return Err(RecordCause::WrongName);
-        };
-        if again && not_above(lock, holder, self.bar_lock, self.bar_holder) {
+        let lock = find_in(self.locks, lock).ok_or(RecordCause::WrongName)?;
+        let holder = find_in(self.holders, holder).ok_or(RecordCause::WrongName)?;
+        if let Some(last) = last
+            && (lock, holder) <= last
+        {
             return Err(RecordCause::NotRising);
         }
-        self.before = Some(Kind::Bar);
-        self.bar_lock = lock;
-        self.bar_holder = holder;
+        self.last_bar = (lock, holder);
         Ok(Entry::Bar(lock, holder))
     }
 
-    // The next line, judged by the lines before; where it is taken, what it adds.
-    pub(crate) fn take(&mut self, line: Line<'a>) -> Result<Entry, RecordCause>
-        requires kept { (Kept (standing_of self.old)) × (self.old.rows < 65536) }
-        requires good { Good (meant line) }
-        ensures { Judged (standing_of self.old) (meant line.entry) (standing_of self.new) result }
+    // A line that may follow, judged by the lines before; all but its kind is noted.
+    fn enter(&mut self, line: Line<'a>) -> Result<Entry, RecordCause>
+        requires { Good (meant line) × (self.old.rows < 65536) }
+        ensures { Entered (standing_of self.old) (meant line.entry) (standing_of self.new) result }
     {
-        if !may_follow(self.before, line.kind()) {
-            return Err(RecordCause::Misplaced);
-        }
         match (self.before, line) {
             (_, Line::Locks { names, .. }) => self.take_locks(names),
             (_, Line::Holders { names, .. }) => self.take_holders(names),
@@ -246,7 +208,7 @@ impl<'a> Reader<'a> {
                     charge,
                     ..
                 },
-            ) => self.take_row(holders, charge, true),
+            ) => self.take_row(holders, charge, Some(self.last_row)),
             (
                 _,
                 Line::Row {
@@ -254,13 +216,34 @@ impl<'a> Reader<'a> {
                     charge,
                     ..
                 },
-            ) => self.take_row(holders, charge, false),
-            (_, Line::Differ { locks, charge, .. }) => self.take_differ(locks, charge),
-            (_, Line::Same { locks, charge, .. }) => self.take_same(locks, charge),
+            ) => self.take_row(holders, charge, None),
+            (_, Line::Differ { locks, charge, .. }) => self.take_rule(
+                RuleForm::Differ,
+                locks,
+                charge,
+            ),
+            (_, Line::Same { locks, charge, .. }) => self.take_rule(RuleForm::Same, locks, charge),
             (_, Line::Join { left, right, .. }) => self.take_join(left, right),
-            (Some(Kind::Bar), Line::Bar { lock, holder, .. }) => self.take_bar(lock, holder, true),
-            (_, Line::Bar { lock, holder, .. }) => self.take_bar(lock, holder, false),
+            (Some(Kind::Bar), Line::Bar { lock, holder, .. }) => self.take_bar(
+                lock,
+                holder,
+                Some(self.last_bar),
+            ),
+            (_, Line::Bar { lock, holder, .. }) => self.take_bar(lock, holder, None),
         }
+    }
+
+    // The next line, judged by the lines before; where it is taken, what it adds.
+    pub(crate) fn take(&mut self, line: Line<'a>) -> Result<Entry, RecordCause>
+        requires { Good (meant line) × (self.old.rows < 65536) }
+        ensures { Judged (standing_of self.old) (meant line.entry) (standing_of self.new) result }
+    {
+        if !may_follow(self.before, line.kind()) {
+            return Err(RecordCause::Misplaced);
+        }
+        let entry = self.enter(line)?;
+        self.before = Some(line.kind());
+        Ok(entry)
     }
 
     // The list of locks, if it has been read.
@@ -277,6 +260,13 @@ impl<'a> Reader<'a> {
         self.holders
     }
 
+    // How many rows there are.
+    pub(crate) fn rows(&self) -> usize
+        ensures { result ≡ self.now.rows }
+    {
+        self.rows
+    }
+
     // Whether the text may end here.
     pub(crate) fn may_end(&self) -> bool
         ensures { result ≡ may_end (standing_of self.now).before }
@@ -285,20 +275,23 @@ impl<'a> Reader<'a> {
     }
 }
 
+// A list of at most so many names, none of them twice.
+fn list_of<'a>(names: Names<'a>, most: usize) -> Result<Names<'a>, RecordCause>
+    ensures { MatchResult result (λ list. (list ≡ names.entry) × Lists most (held names.entry)) (λ cause. Unlists cause most (held names.entry)) }
+{
+    if names.count() > most {
+        return Err(RecordCause::TooMany);
+    }
+    if has_twice(names) {
+        return Err(RecordCause::WrongName);
+    }
+    Ok(names)
+}
+
 // The charge of a number that is not too large for one.
 fn charge_of(value: u32) -> Charge
     requires { value ≤ 1000000 }
     ensures { result ≡ charge_of value }
 {
-    let Some(charge) = Charge::new(value) else {
-        return Charge::ZERO;
-    };
-    charge
-}
-
-// Whether a pair is not above another, the lock counting before the holder.
-fn not_above(lock: usize, holder: usize, last_lock: usize, last_holder: usize) -> bool
-    ensures { Tells (NotAbove lock holder last_lock last_holder) result }
-{
-    lock < last_lock || (lock == last_lock && holder <= last_holder)
+    Charge::new(value).unwrap()
 }

@@ -1,12 +1,13 @@
 // Reading a text line by line: each line from the bytes that are left, judged by the lines before it.
-ghost use Rattle.std.specs.Prelude.{◌≡◌, ◌+◌, ◌<◌, ◌≤◌, length, MatchOption};
-ghost use Rattle.filing.specs.Reading.{record_refusal};
-ghost use Rattle.filing.specs.Readers.{Kept};
-ghost use Rattle.filing.specs.Scanning.{standing_at, Opened, Stepped, Halted, Scanned};
+ghost use Rattle.std.specs.Prelude.{◌≡◌, ◌+◌, ◌<◌, ◌≤◌, length, MatchOption, MatchResult};
+ghost use Rattle.filing.specs.Reading.{record_refusal, too_long};
 
 use crate::reader::{Entry, Reader};
-use book::{Layer, RecordCause, Refusal};
+use book::{Layer, LineCause, RecordCause, Refusal};
 use lines::{Names, take_line};
+
+// The most bytes that a text has.
+const LONGEST: usize = 65_535;
 
 #[derive(Clone, Copy)]
 pub(crate) struct Scan<'a> {
@@ -14,6 +15,9 @@ pub(crate) struct Scan<'a> {
     // What is left of the text, and the number of the line that begins it.
     rest: &'a [u8],
     place: usize,
+    // Each line has a byte at least, so no count outgrows the text.
+    ghost few_rows: { reader.rows + length rest.now ≤ 65535 },
+    ghost few_lines: { place + length rest.now ≤ 65536 },
 }
 
 // The refusal of the line at a place.
@@ -26,8 +30,11 @@ pub(crate) fn refuse(place: usize, cause: RecordCause) -> Refusal
 }
 
 impl<'a> Scan<'a> {
-    // At the start of a text.
+    ghost use Rattle.filing.specs.Scanning.{Opened, Stepped, Halted, Scanned};
+
+    // At the start of a text that is not too long.
     pub(crate) fn new(text: &'a [u8]) -> Scan<'a>
+        requires { length text.now ≤ 65535 }
         ensures { Opened text.now result }
     {
         Scan {
@@ -35,6 +42,21 @@ impl<'a> Scan<'a> {
             rest: text,
             place: 1,
         }
+    }
+
+    // At the start of a text, unless it is too long.
+    pub(crate) fn of(text: &'a [u8]) -> Result<Scan<'a>, Refusal>
+        ensures { MatchResult result (λ scan. (length text.now ≤ 65535) × Opened text.now scan) (λ e. (65535 < length text.now) × (e ≡ too_long)) }
+    {
+        if text.len() > LONGEST {
+            return Err(Refusal {
+                layer: Layer::Line {
+                    place: 0,
+                    cause: LineCause::TooLong,
+                },
+            });
+        }
+        Ok(Scan::new(text))
     }
 
     // The list of locks, if it has been read.
@@ -51,6 +73,13 @@ impl<'a> Scan<'a> {
         self.reader.holders()
     }
 
+    // How many rows have been read.
+    pub(crate) fn rows(&self) -> usize
+        ensures { result ≡ self.now.reader.rows }
+    {
+        self.reader.rows()
+    }
+
     // The number of the line that comes next.
     pub(crate) fn place(&self) -> usize
         ensures { result ≡ self.now.place }
@@ -60,7 +89,6 @@ impl<'a> Scan<'a> {
 
     // What the next line adds, or nothing at the end; a refusal where the line, or the end, cannot come here.
     pub(crate) fn next(&mut self) -> Result<Option<Entry>, Refusal>
-        requires kept { (Kept (standing_at self.old)) × (((standing_at self.old).rows < 65536) × (self.old.place ≤ 65536)) }
         ensures { Scanned self.old self.new result }
     {
         if self.rest.is_empty() {
@@ -69,30 +97,22 @@ impl<'a> Scan<'a> {
             }
             return Ok(None);
         }
-        let (line, after) = take_line(self.rest, self.place)?;
-        match self.reader.take(line) {
-            Ok(entry) => {
-                self.rest = after;
-                self.place += 1;
-                Ok(Some(entry))
-            }
-            Err(cause) => Err(refuse(self.place, cause)),
-        }
+        let place = self.place;
+        let (line, rest) = take_line(self.rest, place)?;
+        let mut reader = self.reader;
+        let entry = reader.take(line).map_err(|cause| refuse(place, cause))?;
+        *self = Scan {
+            reader,
+            rest,
+            place: place + 1,
+        };
+        Ok(Some(entry))
     }
 
     // What the next line adds; nothing at the end, or where the line cannot come here.
     pub(crate) fn step(&mut self) -> Option<Entry>
-        requires kept { (Kept (standing_at self.old)) × (((standing_at self.old).rows < 65536) × (self.old.place ≤ 65536)) }
         ensures { MatchOption result (Halted self.old × (self.new ≡ self.old)) (λ e. Stepped self.old self.new e) }
     {
-        let mut ahead = *self;
-        let Ok(next) = ahead.next() else {
-            return None;
-        };
-        let Some(entry) = next else {
-            return None;
-        };
-        *self = ahead;
-        Some(entry)
+        self.next().ok()?
     }
 }

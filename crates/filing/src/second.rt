@@ -8,7 +8,6 @@ ghost use Rattle.filing.specs.Meanings.{Finished, Means, SecondCall};
 
 use crate::check::check_rows;
 use crate::draft::Draft;
-use crate::joins::Joins;
 use crate::names::NameList;
 use crate::reader::Entry;
 use crate::record::RowRecord;
@@ -16,6 +15,8 @@ use crate::resolve::count_in;
 use crate::rule::RuleBook;
 use crate::scan::Scan;
 use crate::written::WrittenBook;
+use aggregation::Join;
+use arrayvec::ArrayVec;
 use book::Refusal;
 
 // What a text says: its two books, its name lists, its joins and its bars.
@@ -25,15 +26,8 @@ pub struct Filing<'a> {
     pub rules: RuleBook,
     pub locks: NameList<'a>,
     pub holders: NameList<'a>,
-    pub joins: Joins,
+    pub joins: ArrayVec<Join, 63>,
     pub bars: [[bool; 16]; 64],
-}
-
-// A filing, or what refused the text; a filing beside a refusal is empty.
-#[derive(Drop)]
-pub struct Reading<'a> {
-    pub refusal: Option<Refusal>,
-    pub filing: Filing<'a>,
 }
 
 // Gathers what the lines of an accepted text say; `rows` are its rows.
@@ -83,24 +77,9 @@ fn finish<'a>(draft: Draft<'a>, locks: NameList<'a>, holders: NameList<'a>) -> F
 }
 
 // Reads the text and the row list, and gives what the text means or the refusal that stops it.
-pub fn read_filing<'a>(text: &'a [u8], rows: &'a [RowRecord]) -> Reading<'a>
+pub fn read_filing<'a>(text: &'a [u8], rows: &'a [RowRecord]) -> Result<Filing<'a>, Refusal>
     ensures { SecondCall text.now rows.now result }
 {
-    match check_rows(text, rows) {
-        Ok(n) => Reading {
-            refusal: None,
-            filing: gather(text, &rows[0..n]),
-        },
-        Err(refusal) => {
-            let filing = finish(
-                Draft::new(1, 1, &rows[0..0]),
-                NameList::none(),
-                NameList::none(),
-            );
-            Reading {
-                refusal: Some(refusal),
-                filing,
-            }
-        }
-    }
+    let n = check_rows(text, rows)?;
+    Ok(gather(text, &rows[..n]))
 }

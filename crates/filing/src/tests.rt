@@ -11,24 +11,18 @@ use weighing::Charge;
 
 // A record of a row, with a charge of 5 or, if that is to be free, of 0.
 fn record(table: usize, row: usize, free: bool) -> RowRecord {
-    match Charge::new(5) {
-        Some(charge) if !free => RowRecord { table, row, charge },
-        _ => RowRecord {
-            table,
-            row,
-            charge: Charge::ZERO,
-        },
-    }
+    let charge = if free {
+        Charge::ZERO
+    } else {
+        Charge::new(5).unwrap_or(Charge::ZERO)
+    };
+    RowRecord { table, row, charge }
 }
 
 // Table 0 is over locks 0 and 1, table 1 over lock 2.
 fn written(rows: &[RowRecord]) -> Result<WrittenBook<'_>, Fail> {
-    let Some(pair) = Scope::of(&[0, 1]) else {
-        return Err(Fail::new("scope"));
-    };
-    let Some(one) = Scope::of(&[2]) else {
-        return Err(Fail::new("scope"));
-    };
+    let pair = Scope::of(&[0, 1]).ok_or("scope")?;
+    let one = Scope::of(&[2]).ok_or("scope")?;
     let mut book = WrittenBook::new(3, 2, rows);
     book.add_table(pair);
     book.add_table(one);
@@ -37,15 +31,9 @@ fn written(rows: &[RowRecord]) -> Result<WrittenBook<'_>, Fail> {
 
 // Locks 0 and 2 differ, at a charge of 3; locks 1 and 2 are the same, free of charge.
 fn ruled() -> Result<RuleBook, Fail> {
-    let Some(differing) = Scope::of(&[0, 2]) else {
-        return Err(Fail::new("scope"));
-    };
-    let Some(alike) = Scope::of(&[1, 2]) else {
-        return Err(Fail::new("scope"));
-    };
-    let Some(three) = Charge::new(3) else {
-        return Err(Fail::new("charge"));
-    };
+    let differing = Scope::of(&[0, 2]).ok_or("scope")?;
+    let alike = Scope::of(&[1, 2]).ok_or("scope")?;
+    let three = Charge::new(3).ok_or("charge")?;
     let mut book = RuleBook::new(3, 2);
     book.add_rule(
         differing,
@@ -66,21 +54,18 @@ fn ruled() -> Result<RuleBook, Fail> {
 
 // The charge of a row as a number; 100 where the row is absent.
 fn at<B: Book>(book: &B, table: usize, row: usize) -> u32 {
-    match book.charge(table, row) {
-        Some(charge) => charge.value(),
-        None => 100,
-    }
+    book.charge(table, row).map_or(100, |charge| charge.value())
 }
 
 // Checks the rows (table, row number, charge or 100) and the widths of the first scopes.
 fn check_rows<B: Book>(rt: &impl Abort, book: &B, widths: &[usize], rows: &[(usize, usize, u32)]) {
     assert_eq!(rt; book.locks(), 3);
     assert_eq!(rt; book.holders(), 2);
-    for t in 0..widths.len() {
-        assert_eq!(rt; book.scope(t).len(), widths[t]);
+    for (table, width) in widths.iter().enumerate() {
+        assert_eq!(rt; book.scope(table).len(), *width);
     }
-    for i in 0..rows.len() {
-        assert_eq!(rt; at(book, rows[i].0, rows[i].1), rows[i].2);
+    for &(table, row, charge) in rows {
+        assert_eq!(rt; at(book, table, row), charge);
     }
 }
 
@@ -181,10 +166,10 @@ fn edges_of_a_joined_book(rt: HostRuntime) -> Result<(), Fail> {
         first: &book.first,
         second: RuleBook::new(3, 3),
     };
-    match go_together(apart.first, &apart.second) {
-        Ok(()) => return Err(Fail::new("three holders")),
-        Err(refusal) => assert!(rt; refusal.number() == 8 && refusal.place() == 0),
-    }
+    let refusal = go_together(apart.first, &apart.second)
+        .err()
+        .ok_or("three holders")?;
+    assert!(rt; refusal.number() == 8 && refusal.place() == 0);
     assert_eq!(rt; apart.tables(), 2);
     Ok(())
 }

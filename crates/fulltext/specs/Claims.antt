@@ -9,14 +9,14 @@ use Rattle.order.specs.Shapes.{shape_of}
 use Rattle.lines.specs.Told.{Told, Good}
 use Rattle.lines.specs.Texts.{spell_all}
 use Rattle.filing.specs.declared.record.RowRecord.{RowRecord}
-use Rattle.filing.specs.Contents.{rules_of}
+use Rattle.filing.specs.Contents.{rules_of, joins_of}
 use Rattle.filing.specs.Follows.{may_end}
 use Rattle.filing.specs.Meanings.{lock_names, holder_names}
 use Rattle.filing.specs.Readers.{AnyRow}
 use Rattle.filing.specs.Reading.{Full, AllPass, Accepted, Refused, too_long, record_refusal}
 use Rattle.filing.specs.Resolving.{Listing}
 use Rattle.filing.specs.Standing.{at_start, after_all, all_rows}
-use Rattle.cases.specs.Spelled.{spelled_book, spelled_bars, spelled_joins}
+use Rattle.cases.specs.Spelled.{spelled_book, spelled_bars}
 use Rattle.fulltext.specs.Full.{full_lines}
 
 -- What a case has that can be written out: as many names as locks and holders, a book in its ranges, an order that is
@@ -35,7 +35,7 @@ pub record Spells (ls hs : List (List ℕ)) (m : Meaning) (js : List Join) (bars
   pub lock_list : lock_names ts ≡ ls
   pub holder_list : holder_names ts ≡ hs
   pub book : spelled_book ts ≡ m
-  pub joins : spelled_joins ts ≡ js
+  pub joins : joins_of ts ≡ js
   pub barred : spelled_bars ts ≡ bars
 
 -- lines that can be filed, the row list left aside
@@ -74,4 +74,4 @@ FilableIsRead = (ts : List Told) (list : List RowRecord) → Filable ts → Read
 abbrev pub ComesBack : Type 0
 ComesBack =
     (ts : List Told) → Filable ts → rules_of ts ≡ [] →
-    full_lines (lock_names ts) (holder_names ts) (spelled_book ts) (spelled_joins ts) (spelled_bars ts) ≡ ts
+    full_lines (lock_names ts) (holder_names ts) (spelled_book ts) (joins_of ts) (spelled_bars ts) ≡ ts

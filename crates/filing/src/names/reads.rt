@@ -14,13 +14,6 @@ impl<'a> NameList<'a> {
         NameList { names }
     }
 
-    // No names.
-    pub(crate) fn none() -> NameList<'a>
-        ensures { names_of result.names ≡ [] }
-    {
-        NameList { names: None }
-    }
-
     // How many names there are.
     pub fn count(self) -> usize
         ensures { result ≡ length (names_of self.entry.names) }
@@ -32,9 +25,6 @@ impl<'a> NameList<'a> {
     pub fn name(self, i: usize) -> Option<&'a [u8]>
         ensures { MatchOption result (length (names_of self.entry.names) ≤ i) (λ s. (i < length (names_of self.entry.names)) × (s.now ≡ slice_index_or (names_of self.entry.names) i [])) }
     {
-        match self.names {
-            Some(names) => names.name(i),
-            None => None,
-        }
+        self.names?.name(i)
     }
 }

@@ -7,7 +7,7 @@ use Rattle.filing.proofs.Filling.{Sofar}
 use Rattle.filing.proofs.check.check_rows.Given as goal
 
 abbrev pub invariant-loop-entry : goal.invariant-loop-entry
-invariant-loop-entry l = (ts : List Told) × Sofar (OtherRow l.rows) l.text ts l.scan l.found × FoundRows l.rows l.found (all_rows at_start ts)
+invariant-loop-entry l = (ts : List Told) × Sofar (OtherRow l.rows) l.text ts l.scan × FoundRows l.rows l.scan.reader.rows (all_rows at_start ts)
 
 abbrev pub decreases-loop-entry : goal.decreases-loop-entry
 decreases-loop-entry l = length l.scan.rest.now

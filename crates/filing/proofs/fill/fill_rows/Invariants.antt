@@ -5,7 +5,7 @@ use Rattle.filing.proofs.Filling.{Sofar}
 use Rattle.filing.proofs.fill.fill_rows.Given as goal
 
 abbrev pub invariant-loop-entry : goal.invariant-loop-entry
-invariant-loop-entry l = (ts : List Told) × Sofar (Full l.initial.rows) l.text ts l.scan l.filled × (l.rows ≡ filled ts l.initial.rows)
+invariant-loop-entry l = (ts : List Told) × Sofar (Full l.initial.rows) l.text ts l.scan × (l.rows ≡ filled ts l.initial.rows)
 
 abbrev pub decreases-loop-entry : goal.decreases-loop-entry
 decreases-loop-entry l = length l.scan.rest.now

@@ -1,7 +1,7 @@
 use Rattle.std.proofs.Common.{sym, refl, subst}
 use Rattle.filing.specs.declared.draft.Draft.{Draft}
 use Rattle.filing.specs.Drafts.{Extends}
-use Rattle.filing.proofs.Drafting.{hold_table, hold_differ, hold_same, hold_bar}
+use Rattle.filing.proofs.Drafting.{hold_table, hold_rule, hold_bar}
 use Rattle.filing.proofs.draft.Draft.add.Goals as goal
 
 pub returns-in-Table : goal.returns-in-Table
@@ -10,17 +10,11 @@ returns-in-Table c =
     let f : Draft = record { written = c.add_table.new.self; rules = d.rules; joins = d.joins; bars = d.bars } in
     subst (λ e. Extends d f e) (sym c.in-Table.is) (hold_table d f c.in-Table.scope c.add_table.ensures.value c.add_table.ensures.same refl refl refl)
 
-pub returns-in-Differ : goal.returns-in-Differ
-returns-in-Differ c =
+pub returns-in-Rule : goal.returns-in-Rule
+returns-in-Rule c =
     let d = c.args.self.now in
     let f : Draft = record { written = d.written; rules = c.add_rule.new.self; joins = d.joins; bars = d.bars } in
-    subst (λ e. Extends d f e) (sym c.in-Differ.is) (hold_differ d f c.in-Differ.scope c.in-Differ.charge c.add_rule.ensures refl refl refl)
-
-pub returns-in-Same : goal.returns-in-Same
-returns-in-Same c =
-    let d = c.args.self.now in
-    let f : Draft = record { written = d.written; rules = c.add_rule-in-Same.new.self; joins = d.joins; bars = d.bars } in
-    subst (λ e. Extends d f e) (sym c.in-Same.is) (hold_same d f c.in-Same.scope c.in-Same.charge c.add_rule-in-Same.ensures refl refl refl)
+    subst (λ e. Extends d f e) (sym c.in-Rule.is) (hold_rule d f c.in-Rule.scope c.in-Rule.rule c.add_rule.ensures refl refl refl)
 
 pub returns-in-Bar : goal.returns-in-Bar
 returns-in-Bar c =
