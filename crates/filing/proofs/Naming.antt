@@ -1,12 +1,11 @@
 -- The first place of a name.
-use Rattle.std.proofs.Common.{◌≡◌, ℕ, zero, suc, ◌+◌, ◌*◌, ◌^◌, ◌<◌, ◌≤◌, Bool, true, false, cond, ◌||◌, ◌&&◌, eqb, ltb, List, [], ◌∷◌, ◌++◌, length, get_or, take, Some, None, Option, sym, refl, ap, ◌∙◌, subst, mul_assoc, add-mul, mul-le-mul, pow-suc, zero-mul, mul-one, add-one, arith, Less, Equal, Greater, length-append, length-take, get_or-take, MatchBool, MatchOption, MatchResult}
+use Rattle.std.proofs.Common.{◌≡◌, ℕ, zero, suc, ◌+◌, ◌*◌, ◌^◌, ◌<◌, ◌≤◌, Bool, true, false, cond, ◌||◌, ◌&&◌, eqb, ltb, List, [], ◌∷◌, ◌++◌, length, get_or, take, Some, None, Option, sym, refl, ap, ◌∙◌, subst, mul_assoc, add-mul, mul-le-mul, pow-suc, zero-mul, mul-one, add-one, arith, Less, Equal, Greater, length-append, length-take, get_or-take, MatchOption, MatchResult}
 use native.Mathlib.Nat.{pow-zero, pow-le-pow_left, pow-le-pow_right}
 use Rattle.std.specs.Str.{bytes_eq}
 use Rattle.std.proofs.lemmas.Slice.Eq.{bytes_eq-Decides}
 use Rattle.std.proofs.lemmas.List.{take_more, map-append, get_or-map, length-map}
-use Rattle.std.specs.List.{range_with_len, HoldsAt, AllWithin}
-use Rattle.std.proofs.lemmas.Bool.{false≢true}
-use Rattle.std.proofs.lemmas.List.FromFn.{get_or-range_with_len, length-range_with_len}
+use Rattle.std.proofs.lemmas.List.Splits.{length-slice_split}
+use Rattle.std.proofs.lemmas.List.Sums.{count_by-le-length}
 use Rattle.arrayvec.specs.ArrayVec.{ArrayVec}
 use Rattle.weighing.specs.Tests.{Tells}
 use Rattle.std.proofs.lemmas.Bool.Decides.{nat_tests}
@@ -20,10 +19,10 @@ use Rattle.book.specs.declared.refusal.RecordCause.TheVariants.{NotRising}
 use Rattle.filing.specs.Readers.{Scoped, Unscoped}
 use Rattle.book.specs.Rows.{row_number}
 use Rattle.book.proofs.Numbers.{rows_numbered}
-use Rattle.lines.specs.Names.{FirstAt, Absent}
+use Rattle.lines.specs.Names.{FirstAt, Absent, pieces}
 use Rattle.filing.specs.Standing.{Standing, place_of, places}
-use Rattle.filing.specs.Judging.{Twice, Unlisted, NotAbove}
-use Rattle.filing.specs.Resolving.{Found, Noted, Repeats}
+use Rattle.filing.specs.Judging.{Unlisted, NotAbove}
+use Rattle.filing.specs.Resolving.{Found, Noted}
 
 same_not : (m n : List ℕ) → (m ≡ n → ⊥) → bytes_eq m n ≡ false
 same_not m n h = elim (bytes_eq m n) as (λ v. bytes_eq m n ≡ v → v ≡ false) [ true ↦ λ e. absurd (h ((bytes_eq-Decides m n).0 e)) | false ↦ λ e. refl ] refl
@@ -108,16 +107,9 @@ pub empty_is : (xs : List ℕ) → length xs ≡ 0 → xs ≡ []
 empty_is [] h = refl
 empty_is (x ∷ xs) h = absurd (omega arith)
 
--- a name stands twice in a list where some place of it repeats
-pub twice_from_any : (ns : List (List ℕ)) (n : ℕ) (r : Bool) → n ≡ length ns → MatchBool r ((k : ℕ) × (k < length (range_with_len 0 n)) × HoldsAt (Repeats ns) (range_with_len 0 n) k) (AllWithin (λ i. Repeats ns i → ⊥) (range_with_len 0 n) 0 (length (range_with_len 0 n))) → Tells (Twice ns) r
-twice_from_any ns n true e h = record {
-  sound = λ _. let w = h.2 0 in record { one = w.one; other = get_or (range_with_len 0 n) h.0 0; apart = w.apart; within = w.within; equal = w.equal };
-  full = λ _. refl;
-}
-twice_from_any ns n false e h = record {
-  sound = λ t. absurd (false≢true t);
-  full = λ t. absurd (h t.other 0 (omega arith) (omega (arith, length-range_with_len 0 n, t.within)) (subst (Repeats ns) (omega (arith, get_or-range_with_len 0 n t.other 0 (omega (arith, t.within)))) (record { one = t.one; apart = t.apart; within = t.within; equal = t.equal })));
-}
+-- a list has at most one name more than bytes
+pub few_names : (bs : List ℕ) → length (pieces bs) ≤ length bs + 1
+few_names bs = omega (arith, length-slice_split (λ b. eqb b 44) bs, count_by-le-length (λ b. eqb b 44) bs)
 
 -- a scope over places of a list, or why there is none
 pub scoped : (s : Standing) (ns : List (List ℕ)) (p : ArrayVec ℕ) (o : Option Scope) → s.tables < 64 → length s.locks ≤ 64 → length ns ≤ 4 → Noted s.locks ns p → MatchOption o (Rising p.items → Below 64 p.items → 6 < length p.items) (λ x. named x ≡ p.items) → MatchResult (ok_or o NotRising) (λ scope. Scoped s ns scope) (λ cause. Unscoped cause s ns)

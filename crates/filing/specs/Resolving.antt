@@ -18,12 +18,12 @@ pub record Found (list : List (List ℕ)) (name : List ℕ) (i : ℕ) : Type 0 w
   pub is : i ≡ place_of list name
   pub within : i < length list
 
--- the name at a place of the list stands at an earlier place too
-pub record Repeats (ns : List (List ℕ)) (other : ℕ) : Type 0 where
+-- the name stands in the list before place i
+pub record StandsBefore (ns : List (List ℕ)) (name : List ℕ) (i : ℕ) : Type 0 where
   pub one : ℕ
-  pub apart : one < other
-  pub within : other < length ns
-  pub equal : slice_index_or ns one [] ≡ slice_index_or ns other []
+  pub apart : one < i
+  pub within : one < length ns
+  pub equal : slice_index_or ns one [] ≡ name
 
 -- they are the numbers of the names, which are all in the list
 pub record Noted (list ns : List (List ℕ)) (p : ArrayVec ℕ) : Type 0 where

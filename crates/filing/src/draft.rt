@@ -1,5 +1,5 @@
 // The contents of a case, gathered from a text entry by entry.
-ghost use Rattle.std.specs.Prelude.{◌<◌, ◌≤◌, []};
+ghost use Rattle.std.specs.Prelude.{◌≡◌, []};
 ghost use Rattle.filing.specs.Drafts.{Holds, RoomFor, Extends};
 
 use crate::reader::Entry;
@@ -8,7 +8,7 @@ use crate::rule::RuleBook;
 use crate::written::WrittenBook;
 use aggregation::Join;
 use arrayvec::ArrayVec;
-use book::Barred;
+use book::{Barred, BookShape};
 
 #[derive(Drop)]
 pub(crate) struct Draft<'a> {
@@ -19,14 +19,14 @@ pub(crate) struct Draft<'a> {
 }
 
 impl<'a> Draft<'a> {
-    // Nothing yet, in a case with so many locks and holders.
-    pub(crate) fn new(locks: usize, holders: usize, rows: &'a [RowRecord]) -> Draft<'a>
-        requires { (0 < locks) × ((locks ≤ 64) × ((0 < holders) × (holders ≤ 16))) }
-        ensures { Holds locks holders rows.now [] [] [] [] result }
+    // Nothing yet, in a case whose books begin as this shape.
+    pub(crate) fn new(shape: BookShape, rows: &'a [RowRecord]) -> Draft<'a>
+        requires { shape.tables ≡ 0 }
+        ensures { Holds shape.locks shape.holders rows.now [] [] [] [] result }
     {
         Draft {
-            written: WrittenBook::new(locks, holders, rows),
-            rules: RuleBook::new(locks, holders),
+            written: WrittenBook::new(shape, rows),
+            rules: RuleBook::new(shape),
             joins: ArrayVec::new(),
             bars: Barred::new(()),
         }

@@ -1,35 +1,31 @@
 // Names by their numbers in a list: where each stands, if it does, and whether one stands twice.
-ghost use Rattle.std.specs.Prelude.{◌≡◌, ℕ, ◌<◌, ◌≤◌, [], length, MatchOption, slice_index_or};
+ghost use Rattle.std.specs.Prelude.{◌≡◌, ℕ, ◌<◌, ◌≤◌, length, MatchOption};
 ghost use Rattle.weighing.specs.Tests.{Tells};
-ghost use Rattle.lines.specs.Names.{Absent, FirstAt};
+ghost use Rattle.lines.specs.Names.{Absent};
 ghost use Rattle.lines.specs.Told.{held};
 ghost use Rattle.filing.specs.Judging.{Twice, Unlisted};
 ghost use Rattle.book.specs.Lists.{Below};
 ghost use Rattle.book.specs.Rows.{row_number};
-ghost use Rattle.filing.specs.Resolving.{names_of, Found, Noted, Repeats};
+ghost use Rattle.filing.specs.Resolving.{names_of, Found, Noted, StandsBefore};
 
 use arrayvec::ArrayVec;
 use lines::Names;
 
-// The first place of the name that stands at a place of the list.
-fn first_place(names: Names, i: usize) -> Option<usize>
-    ensures { MatchOption result (length (held names.entry) ≤ i) (λ first. (i < length (held names.entry)) × FirstAt (held names.entry) (slice_index_or (held names.entry) i []) first) }
+// Whether a name stands in the list before a place.
+fn stands_before(names: Names, name: &[u8], i: usize) -> bool
+    ensures { Tells (StandsBefore (held names.entry) name.now i) result }
 {
-    names.find(names.name(i)?)
-}
-
-// Whether the name at a place of the list stands at an earlier place too.
-fn repeats(names: Names, i: usize) -> bool
-    ensures { Tells (Repeats (held names.entry) i) result }
-{
-    first_place(names, i).is_some_and(|first| first < i)
+    names.find(name).is_some_and(|first| first < i)
 }
 
 // Whether a name stands twice in the list.
 pub(crate) fn has_twice(names: Names) -> bool
     ensures { Tells (Twice (held names.entry)) result }
 {
-    (0..names.count()).any(|i| repeats(names, i))
+    names
+        .iter()
+        .enumerate()
+        .any(|(i, name)| stands_before(names, name, i))
 }
 
 // The number of a name in a list that may not have been read yet, if it is there.
@@ -45,9 +41,8 @@ pub(crate) fn places_in(list: Option<Names>, names: Names) -> Option<ArrayVec<us
     ensures { MatchOption result (Unlisted (names_of list.entry) (held names.entry)) (λ p. Noted (names_of list.entry) (held names.entry) p) }
 {
     let mut places = ArrayVec::new();
-    // By number: the names of a line are cut out of its bytes, and `lines` has no iterator of them.
-    for i in 0..names.count() {
-        places.push(find_in(list, names.name(i)?)?);
+    for name in names.iter() {
+        places.push(find_in(list, name)?);
     }
     Some(places)
 }

@@ -1,8 +1,10 @@
 // The second call: what a text means, by the rows that the first call put into a row list.
-ghost use Rattle.std.specs.Prelude.{◌≡◌, List};
+ghost use Rattle.std.specs.Prelude.{◌≡◌, List, length, max};
+ghost use Rattle.book.specs.BookShapes.{Empty};
 ghost use Rattle.lines.specs.Told.{Told};
 ghost use Rattle.filing.specs.Readers.{AnyRow};
 ghost use Rattle.filing.specs.Reading.{Accepted};
+ghost use Rattle.filing.specs.Resolving.{names_of};
 ghost use Rattle.filing.specs.Standing.{all_rows, at_start};
 ghost use Rattle.filing.specs.Meanings.{Finished, Means, SecondCall};
 
@@ -17,7 +19,7 @@ use crate::scan::Scan;
 use crate::written::WrittenBook;
 use aggregation::Join;
 use arrayvec::ArrayVec;
-use book::Refusal;
+use book::{BookShape, Refusal};
 
 // What a text says: its two books, its name lists, its joins and its bars.
 #[derive(Drop)]
@@ -30,20 +32,25 @@ pub struct Filing<'a> {
     pub bars: [[bool; 16]; 64],
 }
 
+// No tables yet, in a book of the locks and holders that are read so far; a list still to come counts as one name.
+fn no_tables(scan: &Scan) -> BookShape
+    ensures { Empty (max (length (names_of scan.now.reader.locks)) 1) (max (length (names_of scan.now.reader.holders)) 1) result }
+{
+    let locks = count_in(scan.locks()).max(1);
+    let holders = count_in(scan.holders()).max(1);
+    BookShape::new(locks, holders).unwrap()
+}
+
 // Gathers what the lines of an accepted text say; `rows` are its rows.
 fn gather<'a>(text: &'a [u8], rows: &'a [RowRecord]) -> Filing<'a>
     requires { (ts : List Told) × Accepted AnyRow text.now ts × (rows.now ≡ all_rows at_start ts) }
     ensures { (ts : List Told) → Accepted AnyRow text.now ts → rows.now ≡ all_rows at_start ts → Means ts result }
 {
     let mut scan = Scan::new(text);
-    let mut draft = Draft::new(1, 1, rows);
+    let mut draft = Draft::new(no_tables(&scan), rows);
     while let Some(entry) = scan.step() {
         if let Entry::Names = entry {
-            draft = Draft::new(
-                count_in(scan.locks()).max(1),
-                count_in(scan.holders()).max(1),
-                rows,
-            );
+            draft = Draft::new(no_tables(&scan), rows);
         } else {
             draft.add(entry);
         }

@@ -4,7 +4,7 @@ ghost use Rattle.book.specs.Layers.{barred, bar_at, joined};
 
 use crate::rule::{Rule, RuleForm};
 use crate::{RowRecord, RuleBook, WrittenBook};
-use book::{Barred, Book, Joined, Scope, go_together};
+use book::{Barred, Book, BookShape, Joined, Scope, go_together};
 use std::process::Abort;
 use std::test::Fail;
 use weighing::Charge;
@@ -23,7 +23,8 @@ fn record(table: usize, row: usize, free: bool) -> RowRecord {
 fn written(rows: &[RowRecord]) -> Result<WrittenBook<'_>, Fail> {
     let pair = Scope::of(&[0, 1]).ok_or("scope")?;
     let one = Scope::of(&[2]).ok_or("scope")?;
-    let mut book = WrittenBook::new(3, 2, rows);
+    let shape = BookShape::new(3, 2).ok_or("shape")?;
+    let mut book = WrittenBook::new(shape, rows);
     book.add_table(pair);
     book.add_table(one);
     Ok(book)
@@ -34,7 +35,8 @@ fn ruled() -> Result<RuleBook, Fail> {
     let differing = Scope::of(&[0, 2]).ok_or("scope")?;
     let alike = Scope::of(&[1, 2]).ok_or("scope")?;
     let three = Charge::new(3).ok_or("charge")?;
-    let mut book = RuleBook::new(3, 2);
+    let shape = BookShape::new(3, 2).ok_or("shape")?;
+    let mut book = RuleBook::new(shape);
     book.add_rule(
         differing,
         Rule {
@@ -164,7 +166,7 @@ fn edges_of_a_joined_book(rt: HostRuntime) -> Result<(), Fail> {
     );
     let apart = Joined {
         first: &book.first,
-        second: RuleBook::new(3, 3),
+        second: RuleBook::new(BookShape::new(3, 3).ok_or("shape")?),
     };
     let refusal = go_together(apart.first, &apart.second)
         .err()

@@ -1,15 +1,15 @@
 -- Names and lists of names: a spelling has one list, which is the pieces between its commas.
-use Rattle.std.proofs.Common.{◌≡◌, ℕ, ◌<◌, ◌≤◌, Bool, true, false, eqb, ◌⊎◌, List, [], ◌∷◌, length, get_or, Option, None, Some, MatchOption, Bor, sym, refl, ap, ◌∙◌, subst, ⊎_elim, arith, MatchBool}
+use Rattle.std.proofs.Common.{◌≡◌, ℕ, ◌<◌, ◌≤◌, Bool, true, false, eqb, ◌⊎◌, List, [], ◌∷◌, ◌++◌, length, get_or, Option, None, Some, MatchOption, Bor, sym, refl, ap, ◌∙◌, subst, ⊎_elim, arith, MatchBool}
 use Rattle.std.specs.Bool.{then_some}
 use Rattle.std.specs.List.{AllByRecursion, AllWithin, HoldsAt, slice_get}
 use Rattle.std.specs.Option.{option_map}
-use Rattle.std.proofs.lemmas.List.Elements.{All-nil, All-weaker, All-get_or, All-from_recursion, recursion_from_All}
+use Rattle.std.proofs.lemmas.List.Elements.{All-nil, All-cons, All-weaker, All-get_or, All-from_recursion, recursion_from_All}
 use Rattle.std.proofs.lemmas.List.Splits.{slice_split_none, slice_split_at, length-slice_split, join_with_byte-slice_split}
 use Rattle.std.proofs.lemmas.Option.{slice_get_cases, slice_get_within, get_or_from_slice_get}
 use Rattle.lines.specs.Names.{name_byte, NameBytes, Name, joined, pieces, FirstAt, Absent}
 use Rattle.lines.specs.Told.{held, SomeNamed, Named}
 use Rattle.lines.specs.Bodies.{NoNames, NoFew}
-use Rattle.lines.specs.Cuts.{Lacks}
+use Rattle.lines.specs.Cuts.{Lacks, Cut}
 use Rattle.lines.specs.declared.names.Names.{Names}
 use Rattle.lines.proofs.Cutting.{none_is, lacks_between}
 
@@ -68,3 +68,15 @@ few_of least most bs n some h false t = λ ns g e.
     let same : pieces bs ≡ ns = ap pieces e ∙ pieces_joined ns (record { names = g.names; some = omega (arith, g.least_so) }) in
     let l = ap length (sym (ap pieces h.1 ∙ pieces_joined (held n) h.0) ∙ same) in
     ⊎_elim (λ p. omega (arith, g.least_so)) (λ p. omega (arith, g.most_so)) t
+
+-- where no cut is, the bytes lack c
+uncut : (c : ℕ) (bs : List ℕ) → ((x y : List ℕ) → bs ≡ x ++ (c ∷ y) → ⊥) → Lacks c bs
+uncut c [] h = All-nil (λ b. b ≡ c → ⊥)
+uncut c (b ∷ bs) h = All-cons (λ b. b ≡ c → ⊥) b bs (λ e. h [] bs (ap (λ d. d ∷ bs) e)) (uncut c bs (λ x y e. h (b ∷ x) y (ap (λ l. b ∷ l) e)))
+
+-- the bytes without a comma are one name, and others are the name before the first comma and what follows it
+pub last_name : (bs : List ℕ) → ((x y : List ℕ) → bs ≡ x ++ (44 ∷ y) → ⊥) → pieces bs ≡ bs ∷ []
+last_name bs h = slice_split_none (λ b. eqb b 44) bs (none_is 44 bs (uncut 44 bs h))
+
+pub next_name : (bs front back : List ℕ) → Cut 44 bs front back → pieces bs ≡ front ∷ pieces back
+next_name bs front back cut = ap pieces cut.whole ∙ slice_split_at (λ b. eqb b 44) front 44 back (none_is 44 front cut.first) refl

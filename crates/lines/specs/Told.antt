@@ -1,10 +1,12 @@
 -- What a line says, and its one spelling.
-use Rattle.std.specs.Prelude.{◌≡◌, ℕ, ◌≤◌, List, ◌∷◌, ◌++◌, length, codes, decimal}
+use Rattle.std.specs.Prelude.{◌≡◌, ℕ, ◌≤◌, List, [], ◌∷◌, ◌++◌, length, codes, decimal, Some, None, Option}
+use Rattle.std.specs.Borrow.{Bor}
 use Rattle.std.specs.List.{AllByRecursion}
 use Rattle.lines.specs.Names.{Name, joined, pieces}
 use Rattle.lines.specs.declared.kind.Kind.{Kind}
 use Rattle.lines.specs.declared.kind.Kind.TheVariants as kind
 use Rattle.lines.specs.declared.names.Names.{Names}
+use Rattle.lines.specs.declared.names.NamesIter.{NamesIter}
 use Rattle.lines.specs.declared.line.Line.{Line}
 use Rattle.lines.specs.declared.line.Line.TheVariants as line
 
@@ -89,6 +91,15 @@ pub record Reads (t : Told) (bytes : List ℕ) : Type 0 where
 -- the names of a borrowed list
 abbrev pub held : Names → List (List ℕ)
 held n = pieces n.bytes.now
+
+-- the names that the rest of the bytes holds, if there is a rest
+abbrev pub held_by_rest : Option (Bor (List ℕ)) → List (List ℕ)
+held_by_rest None = []
+held_by_rest (Some bytes) = pieces bytes.now
+
+-- the names that an iterator has still to give
+abbrev pub left : NamesIter → List (List ℕ)
+left it = held_by_rest it.rest
 
 -- what a borrowed line says
 abbrev pub meant : Line → Told

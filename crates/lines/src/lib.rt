@@ -16,6 +16,6 @@ pub use kind::Kind;
 pub use law::{spelling_is_one_to_one, text_has_one_reading};
 pub use line::Line;
 pub use name::is_name;
-pub use names::Names;
+pub use names::{Names, NamesIter};
 pub use number::read_number;
 pub use read::{read_line, take_line};

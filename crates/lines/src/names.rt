@@ -1,14 +1,23 @@
 // Names that stand in a text, with commas between. What the list holds is what stands between the commas.
 ghost use Rattle.std.specs.Prelude.{◌≡◌, ℕ, ◌<◌, ◌≤◌, List, [], length, MatchOption, ◌≢◌, slice_index_or};
+ghost use Rattle.std.specs.Iterator.{YieldsFirstRef, item_count};
 ghost use Rattle.lines.specs.Names.{joined, FirstAt, Absent};
-ghost use Rattle.lines.specs.Told.{held, SomeNamed, Named};
+ghost use Rattle.lines.specs.Told.{held, left, SomeNamed, Named};
 
+use super::cut::{Mark, cut_at};
 use super::name::is_name;
 
 // How many names there are is no invariant: the bounds that the contracts state differ by the line's kind.
 #[derive(Clone, Copy)]
 pub struct Names<'a> {
     bytes: &'a [u8],
+}
+
+// The names of a list that are still to come, in the list's order.
+#[derive(Clone, Drop)]
+pub struct NamesIter<'a> {
+    // What is left of the bytes; nothing after the last name.
+    rest: Option<&'a [u8]>,
 }
 
 impl<'a> Names<'a> {
@@ -27,6 +36,15 @@ impl<'a> Names<'a> {
     {
         let names = Names::read_some(bytes)?;
         (least..=most).contains(&names.count()).then_some(names)
+    }
+
+    // The names, one by one.
+    pub fn iter(self) -> NamesIter<'a>
+        ensures { left result ≡ held self.entry }
+    {
+        NamesIter {
+            rest: Some(self.bytes),
+        }
     }
 
     // How many names there are.
@@ -50,5 +68,22 @@ impl<'a> Names<'a> {
         self.bytes
             .split(|b| *b == b',')
             .position(|other| other == name)
+    }
+}
+
+impl<'a> Iterator for NamesIter<'a> {
+    type Item = &'a [u8];
+
+    ghost next_gives = { YieldsFirstRef left };
+
+    ghost remaining = { item_count left };
+
+    fn next(&mut self) -> Option<&'a [u8]> {
+        let rest = self.rest.take()?;
+        let Some((name, after)) = cut_at(rest, Mark::Comma) else {
+            return Some(rest);
+        };
+        self.rest = Some(after);
+        Some(name)
     }
 }

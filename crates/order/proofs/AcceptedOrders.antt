@@ -1,5 +1,6 @@
 -- What it takes for an order to be accepted.
-use Rattle.std.proofs.Common.{◌≡◌, ℕ, ◌+◌, ◌<◌, Bool, true, false, cond, eqb, ◌↔◌, List, length, is_some, Some, None, Option, refl, ◌∙◌}
+use Rattle.std.proofs.Common.{◌≡◌, ℕ, ◌+◌, ◌<◌, Bool, true, false, cond, eqb, ◌↔◌, List, length, is_some, Some, None, Option, sym, refl, ◌∙◌}
+use Rattle.std.proofs.lemmas.Option.{none-some}
 use Rattle.std.proofs.lemmas.Bool.{eqb-true, both_ways}
 use Rattle.aggregation.specs.declared.join.Join.{Join}
 use Rattle.aggregation.specs.Sets.{all}
@@ -7,14 +8,14 @@ use Rattle.aggregation.specs.Nets.{Shape, has}
 use Rattle.aggregation.specs.Orders.{wide, Accepted}
 use Rattle.order.specs.Firsts.{first}
 use Rattle.order.specs.Refusals.{bare, miscounted, fault, order_refusal}
-use Rattle.order.proofs.FirstOf.{some_not_none, or_else_left, or_else_right, first_all, first_empty}
+use Rattle.order.proofs.FirstOf.{or_else_left, or_else_right, first_all, first_empty}
 use Rattle.order.proofs.FitJoins.{no_fault}
 use Rattle.order.proofs.PlanMade.{past_two}
 
 -- a test that refuses nothing was passed
 passed : {A : Type 0} (b : Bool) (a : A) → cond b None (Some a) ≡ None → b ≡ true
 passed true a e = refl
-passed false a e = absurd (some_not_none a e)
+passed false a e = absurd (none-some a (sym e))
 
 -- what is not there is nothing
 pub not_some : {A : Type 0} (o : Option A) → is_some o ≡ false → o ≡ None

@@ -1,6 +1,7 @@
 -- The first that is there, and the nodes that joins use.
-use Rattle.std.proofs.Common.{◌≡◌, ℕ, zero, suc, ◌+◌, ◌<◌, ◌≤◌, true, false, ◌||◌, eqb, List, Some, None, Option, sym, refl, ap, ◌∙◌, subst, inl, inr, add-one, arith}
-use Rattle.std.proofs.lemmas.Bool.{cases_eq, eq-eqb, ne_eqb, or_right}
+use Rattle.std.proofs.Common.{◌≡◌, ℕ, zero, suc, ◌+◌, ◌<◌, ◌≤◌, true, ◌||◌, eqb, List, Some, None, Option, sym, refl, ap, ◌∙◌, subst, inl, inr, add-one, arith}
+use Rattle.std.proofs.lemmas.Option.{none-some}
+use Rattle.std.proofs.lemmas.Bool.{cases_eq, eq-eqb, or_right}
 use Rattle.aggregation.specs.declared.join.Join.{Join}
 use Rattle.aggregation.specs.Orders.{join_at, used}
 use Rattle.order.specs.Firsts.{first, or_else}
@@ -23,10 +24,6 @@ first_stays {A} g n (suc m) a h e = elim (cases_eq n (suc m)) [ inl p ↦ subst 
 pub first_found : {A : Type 0} (g : ℕ → Option A) (n m : ℕ) (a : A) → n < m → first g n ≡ None → g n ≡ Some a → first g m ≡ Some a
 first_found g n m a h e p = first_stays g (n + 1) m a (omega arith) (first_more g n e ∙ p)
 
--- what is there is not nothing
-pub some_not_none : {A : Type 0} (a : A) → Some a ≡ None → ⊥
-some_not_none a e = let z : ◌≡◌ {A = ℕ} 0 1 = cc in omega arith
-
 -- where neither is there
 pub or_else_left : {A : Type 0} (a b : Option A) → or_else a b ≡ None → a ≡ None
 or_else_left None b z = refl
@@ -34,7 +31,7 @@ or_else_left (Some a) b z = z
 
 pub or_else_right : {A : Type 0} (a b : Option A) → or_else a b ≡ None → b ≡ None
 or_else_right None b z = z
-or_else_right (Some a) b z = absurd (some_not_none a z)
+or_else_right (Some a) b z = absurd (none-some a (sym z))
 
 -- where none is there
 pub first_all : {A : Type 0} (g : ℕ → Option A) (n i : ℕ) → first g n ≡ None → i < n → g i ≡ None
@@ -48,11 +45,7 @@ unfolding first
 first_empty g zero h = refl
 first_empty g (suc n) h = rw (first_empty g n (λ i l. h i (omega arith)), h n (omega arith)) refl
 
--- the nodes that joins use: none at first; what is used stays used; and a join uses its two sides and no other
-pub used_none : (js : List Join) (k : ℕ) → used js 0 k ≡ false
-unfolding used
-used_none js k = refl
-
+-- what is used stays used, and a join uses its two sides
 used_more : (js : List Join) (i k : ℕ) → used js (i + 1) k ≡ ((eqb k (join_at js i).left || eqb k (join_at js i).right) || used js i k)
 unfolding used
 used_more js i k = rw add-one refl
@@ -67,6 +60,3 @@ used_left js i k e = let q = eq-eqb k (join_at js i).left e in used_more js i k 
 
 pub used_right : (js : List Join) (i k : ℕ) → k ≡ (join_at js i).right → used js (i + 1) k ≡ true
 used_right js i k e = let q = eq-eqb k (join_at js i).right e in used_more js i k ∙ grind arith
-
-pub used_not : (js : List Join) (i k : ℕ) → (k ≡ (join_at js i).left → ⊥) → (k ≡ (join_at js i).right → ⊥) → used js i k ≡ false → used js (i + 1) k ≡ false
-used_not js i k a b e = let p = ne_eqb k (join_at js i).left a in let q = ne_eqb k (join_at js i).right b in used_more js i k ∙ grind arith

@@ -2,9 +2,9 @@ pub mod Places
 pub mod Shaped
 pub mod Masked
 pub mod Listed
-pub mod KnownNodes
 pub mod FirstOf
 pub mod FitJoins
+pub mod KnownNodes
 pub mod PlanRows
 pub mod AboveOf
 pub mod PlanMade

@@ -1,5 +1,5 @@
 -- Arrays of marks, and the sets that they stand for.
-use Rattle.std.proofs.Common.{◌≡◌, ℕ, zero, suc, ◌+◌, ◌<◌, ◌≤◌, Bool, true, false, cond, ◌&&◌, ◌||◌, eqb, List, [], ◌∷◌, length, get_or, take, set, replicate, sym, refl, ap, ◌∙◌, subst, inl, inr, add-one, arith, get_or-set_other, get_or-set_same}
+use Rattle.std.proofs.Common.{◌≡◌, ℕ, ◌+◌, ◌<◌, ◌≤◌, Bool, true, false, cond, ◌&&◌, ◌||◌, eqb, List, [], ◌∷◌, length, get_or, take, set, replicate, sym, refl, ap, ◌∙◌, subst, inl, inr, add-one, arith, get_or-set_other, get_or-set_same}
 use mathlib.Core.Path.{fun_ext}
 use Rattle.std.proofs.lemmas.List.{get_or_past, take_more, get_or-replicate, length-replicate}
 use Rattle.std.proofs.lemmas.Bool.{cases_eq, cases_lt, eq-eqb, ne_eqb}
@@ -42,23 +42,10 @@ among_more ls xs i h r before k = elim (cases_eq k (get_or ls i 0)) [ inl p ↦ 
     there : (k ≡ get_or ls i 0 → ⊥) → get_or (set xs (get_or ls i 0) true) k false ≡ among (take (i + 1) ls) k
     there n = get_or-set_other xs (get_or ls i 0) k true false n ∙ before k ∙ sym (grown ∙ let q = ne_eqb k (get_or ls i 0) n in grind arith)
 
--- how many there are: none below 0, one more where the next is in the set, and never more than the bound
+-- how many there are below one more number
 pub size_more : (n : ℕ) (s : Set) → size (n + 1) s ≡ size n s + cond (s n) 1 0
 unfolding size
 size_more n s = rw add-one refl
-
-pub size_under : (n : ℕ) (s : Set) → size n s ≤ n
-unfolding size
-size_under zero s = omega arith
-size_under (suc n) s = go (s n) (size_under n s)
-  where
-    go : (b : Bool) → size n s ≤ n → size n s + cond b 1 0 ≤ suc n
-    go true h = omega arith
-    go false h = omega arith
-
-pub size_none : (s : Set) → size 0 s ≡ 0
-unfolding size
-size_none s = refl
 
 -- beyond both rows nothing is marked
 pub past_or : (xs ys : List Bool) (k : ℕ) → length xs ≤ k → length ys ≤ k → (get_or xs k false || get_or ys k false) ≡ false
@@ -66,13 +53,6 @@ past_or xs ys k h l = rw (get_or_past xs k false h, get_or_past ys k false l)
 
 pub past_and : (xs ys : List Bool) (k : ℕ) → length xs ≤ k → length ys ≤ k → (get_or xs k false && get_or ys k false) ≡ false
 past_and xs ys k h l = rw (get_or_past xs k false h)
-
--- a count that goes on by one, or stays
-pub count_in : (n : ℕ) (s : Set) (c : ℕ) → c ≡ size n s → s n ≡ true → c + 1 ≡ size (n + 1) s
-count_in n s c e h = let m = size_more n s in rw (m, h, e) refl
-
-pub count_out : (n : ℕ) (s : Set) (c : ℕ) → c ≡ size n s → s n ≡ false → c ≡ size (n + 1) s
-count_out n s c e h = let m = size_more n s in rw (m, h) (omega arith)
 
 -- a row of falses with one mark
 pub one_marked : (n k : ℕ) → k < n → ◌≡◌ {A = Set} (λ u. get_or (set (replicate n false) k true) u false) (λ u. eqb u k)

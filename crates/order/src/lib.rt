@@ -6,6 +6,7 @@ mod marks;
 mod nodes;
 mod part;
 mod plan;
+mod progress;
 mod side;
 mod theorems;
 

@@ -48,22 +48,27 @@ impl Marks {
         self.on.get(k).map_or(false, |on| *on)
     }
 
-    // The numbers of either set.
+    // The numbers of either set. By index, here and below: tried `from_fn`, and the gate then wrote no statements of this
+    // crate. This and the next stay two: one function with a closure is longer than both bodies.
     pub(crate) fn or(&self, other: &Marks) -> Marks
         ensures { marked result ≡ marked self.now ∪ marked other.now }
     {
-        Marks {
-            on: std::array::from_fn(|k| self.on[k] | other.on[k]),
+        let mut on = [false; 64];
+        for k in 0..64 {
+            on[k] = self.on[k] | other.on[k];
         }
+        Marks { on }
     }
 
     // The numbers of both sets.
     pub(crate) fn and(&self, other: &Marks) -> Marks
         ensures { marked result ≡ marked self.now ∩ marked other.now }
     {
-        Marks {
-            on: std::array::from_fn(|k| self.on[k] & other.on[k]),
+        let mut on = [false; 64];
+        for k in 0..64 {
+            on[k] = self.on[k] & other.on[k];
         }
+        Marks { on }
     }
 
     // How many numbers below n are in the set.
@@ -81,8 +86,8 @@ impl Marks {
         ensures { named result ≡ listed n (marked self.now) }
     {
         let mut locks: ArrayVec<usize, 6> = ArrayVec::new();
-        for k in 0..n {
-            if self.on[k] {
+        for (k, on) in self.on[..n].iter().enumerate() {
+            if *on {
                 locks.push(k);
             }
         }

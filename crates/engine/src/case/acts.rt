@@ -17,6 +17,7 @@ impl<B: Book + Drop> Case<B> {
     // A case of a book, with no bars and no order.
     pub fn new(book: B) -> Case<B>
         ensures book { book_in result ≡ book }
+        ensures shape { shape_now result ≡ shape_of (B.Book.meaning book) }
         ensures bars { bars_now result ≡ (λ lock holder. false) }
         ensures order { order_now result ≡ None }
     {

@@ -1,4 +1,4 @@
-ghost use Rattle.std.specs.Prelude.{◌≡◌, ℕ, ◌<◌, ◌≤◌, length};
+ghost use Rattle.std.specs.Prelude.{◌≡◌, ℕ, ◌<◌, length};
 ghost use Rattle.book.specs.Scopes.{named};
 ghost use Rattle.book.specs.Shapes.{Fit};
 ghost use Rattle.book.specs.BookShapes.{shape_ranged};
@@ -28,19 +28,17 @@ fn charged(rule: Rule, holders: usize, row: usize) -> Option<Charge>
 }
 
 impl RuleBook {
-    // No rules yet.
-    pub(crate) fn new(locks: usize, holders: usize) -> RuleBook
-        requires { (0 < locks) × ((locks ≤ 64) × ((0 < holders) × (holders ≤ 16))) }
-        ensures locks { (by_rules result).locks ≡ locks }
-        ensures holders { (by_rules result).holders ≡ holders }
-        ensures tables { (by_rules result).tables ≡ 0 }
+    // No rules yet, in a book that begins as this shape.
+    pub(crate) fn new(shape: BookShape) -> RuleBook
+        requires { shape.tables ≡ 0 }
+        ensures { result.shape ≡ shape }
     {
         let rule = Rule {
             form: RuleForm::Differ,
             charge: Charge::ZERO,
         };
         RuleBook {
-            shape: BookShape::new(locks, holders).unwrap(),
+            shape,
             rules: [rule; 64],
         }
     }

@@ -1,4 +1,4 @@
-ghost use Rattle.std.specs.Prelude.{◌≡◌, ◌<◌, ◌≤◌};
+ghost use Rattle.std.specs.Prelude.{◌≡◌, ◌<◌};
 ghost use Rattle.book.specs.Scopes.{named};
 ghost use Rattle.book.specs.Shapes.{Fit};
 ghost use Rattle.book.specs.BookShapes.{shape_ranged};
@@ -11,18 +11,12 @@ use book::{Book, BookShape, Scope};
 use weighing::Charge;
 
 impl<'a> WrittenBook<'a> {
-    // No tables yet, over this row list.
-    pub(crate) fn new(locks: usize, holders: usize, rows: &'a [RowRecord]) -> WrittenBook<'a>
-        requires { (0 < locks) × ((locks ≤ 64) × ((0 < holders) × (holders ≤ 16))) }
-        ensures locks { (written result).locks ≡ locks }
-        ensures holders { (written result).holders ≡ holders }
-        ensures tables { (written result).tables ≡ 0 }
+    // A book of this shape, over this row list.
+    pub(crate) fn new(shape: BookShape, rows: &'a [RowRecord]) -> WrittenBook<'a>
+        ensures shape { result.shape ≡ shape }
         ensures rows { result.rows.now ≡ rows.now }
     {
-        WrittenBook {
-            rows,
-            shape: BookShape::new(locks, holders).unwrap(),
-        }
+        WrittenBook { rows, shape }
     }
 
     // One more table, over these locks: its rows are those that the list has under its number.

@@ -1,12 +1,8 @@
-use Rattle.std.proofs.Common.{arith, rules}
-use borrow.Author.Tests.{tests}
-use Rattle.std.proofs.lemmas.Iterator.{cases_from_any, YieldsList-from_range}
-use Rattle.lines.specs.Told.{held}
-use Rattle.filing.specs.Resolving.{Repeats}
-use Rattle.filing.proofs.Naming.{twice_from_any}
+use Rattle.std.proofs.Common.{length, ap, ◌∙◌, inl, arith}
+use Rattle.lines.specs.Told.{left}
+use Rattle.filing.proofs.Naming.{few_names}
 use Rattle.filing.proofs.resolve.has_twice.Goals as goal
 
-pub returns : goal.returns
-returns c =
-    twice_from_any _ _ _ c.count.ensures
-    (cases_from_any _ _ _ (Repeats (held c.args.names)) (λ i. Repeats (held c.args.names) i → ⊥) c.any.ensures.ran (YieldsList-from_range 0 c.count.result c.count.result (cc) (omega arith)) (λ x q k. search (rules, tests)) (λ x q k. search (rules, tests)))
+pub any-requires-clause-can : goal.any-requires-clause-can
+any-requires-clause-can c =
+    (tt, tt, inl (omega (arith, c.ranges.names.0, c.ranges.names.1, few_names c.args.names.bytes.now, c.enumerate.ensures.count, ap length (ap left c.enumerate.ensures.source ∙ c.iter.ensures))))

@@ -5,9 +5,9 @@ use Rattle.filing.specs.Standing.{places}
 use Rattle.filing.specs.Resolving.{names_of}
 use Rattle.filing.proofs.resolve.places_in.Given as goal
 
-abbrev pub invariant-loop-i : goal.invariant-loop-i
-invariant-loop-i l = record {
-  count : length l.places.items ≡ l.i;
-  is : l.places.items ≡ places (names_of l.list) (take l.i (held l.names));
+abbrev pub invariant-loop-name : goal.invariant-loop-name
+invariant-loop-name l = record {
+  count : length l.places.items ≡ length l.yielded;
+  is : l.places.items ≡ places (names_of l.list) (take (length l.yielded) (held l.names));
   below : Below (length (names_of l.list)) l.places.items;
 }

@@ -1,4 +1,4 @@
-use Rattle.std.proofs.Common.{max, [], ◌∷◌, ◌++◌, length, ap, ◌∙◌}
+use Rattle.std.proofs.Common.{[], ◌∷◌, ◌++◌, ap, ◌∙◌}
 use Rattle.filing.specs.Resolving.{names_of}
 use Rattle.filing.proofs.Gathering.{begin, room_here, add_entry, add_names, meant_by}
 use Rattle.filing.proofs.second.gather.Goals as goal
@@ -11,9 +11,7 @@ add-requires c = room_here _ _ _ _ _ c.loop-entry.invariant.1 _ _ c.in-Some.ensu
 
 pub loop-entry-preserved-in-Names : goal.loop-entry-preserved-in-Names
 loop-entry-preserved-in-Names c =
-    let l = c.max.ensures ∙ ap (λ n. max n 1) (c.count_in.ensures ∙ ap (λ n. length (names_of n)) c.locks.ensures) in
-    let h = c.max-in-Names.ensures ∙ ap (λ n. max n 1) (c.count_in-in-Names.ensures ∙ ap (λ n. length (names_of n)) c.holders.ensures) in
-    (c.loop-entry.invariant.0 ++ (c.in-Some.ensures.line ∷ []), add_names _ _ _ _ _ c.loop-entry.invariant.1 _ _ c.in-Some.ensures c.in-Names.is _ _ _ l h c.new-draft-in-Names.ensures)
+    (c.loop-entry.invariant.0 ++ (c.in-Some.ensures.line ∷ []), add_names _ _ _ _ _ c.loop-entry.invariant.1 _ _ c.in-Some.ensures c.in-Names.is _ _ _ c.no_tables-in-Names.ensures.locks_are c.no_tables-in-Names.ensures.holders_are c.new-draft-in-Names.ensures)
 
 pub loop-entry-preserved : goal.loop-entry-preserved
 loop-entry-preserved c = (c.loop-entry.invariant.0 ++ (c.in-Some.ensures.line ∷ []), add_entry _ _ _ _ _ c.loop-entry.invariant.1 _ _ c.in-Some.ensures c.in_default-entry.not-Names _ c.add.ensures)
@@ -22,6 +20,6 @@ pub returns : goal.returns
 returns c ts acc same =
     let still = c.in_default.ensures.1 in
     meant_by _ _ _ _ _ c.loop-entry.invariant.1 c.in_default.ensures.0 ts acc same c.new.result c.new-2.result
-    (ap names_of (c.new.ensures ∙ c.locks-2.ensures ∙ ap (λ p. p.reader.locks) still))
-    (ap names_of (c.new-2.ensures ∙ c.holders-2.ensures ∙ ap (λ p. p.reader.holders) still))
+    (ap names_of (c.new.ensures ∙ c.locks.ensures ∙ ap (λ p. p.reader.locks) still))
+    (ap names_of (c.new-2.ensures ∙ c.holders.ensures ∙ ap (λ p. p.reader.holders) still))
     c.finish.result c.finish.ensures

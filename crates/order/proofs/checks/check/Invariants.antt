@@ -2,7 +2,6 @@ use Rattle.std.proofs.Common.{◌≡◌, ℕ, ◌*◌, ◌<◌, ◌≤◌, map, 
 use Rattle.aggregation.specs.Orders.{cells}
 use Rattle.order.specs.BookShapes.{shape_in}
 use Rattle.order.specs.Firsts.{first}
-use Rattle.order.specs.Known.{Known}
 use Rattle.order.specs.Refusals.{fault}
 use Rattle.order.specs.Rows.{row, row_of, no_row}
 use Rattle.order.proofs.checks.check.Given as goal
@@ -10,8 +9,10 @@ use Rattle.order.proofs.checks.check.Given as goal
 abbrev pub invariant-loop-i : goal.invariant-loop-i
 invariant-loop-i l =
     let s = shape_in l.shape in
-    (first (fault s l.joins) l.i ≡ None)
-    × Known s l.joins l.i l.nodes.at
+    (l.progress.shape.now ≡ l.shape)
+    × (l.progress.joins.now ≡ l.joins)
+    × (l.progress.done ≡ l.i)
+    × (first (fault s l.joins) l.i ≡ None)
     × (length l.parts ≡ 64)
     × ((k : ℕ) → k < l.i → get_or (map row_of l.parts) k no_row ≡ row s l.joins k)
     × (l.cells ≡ cells s l.joins l.i)

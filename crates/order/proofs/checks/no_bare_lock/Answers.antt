@@ -3,7 +3,6 @@ use Rattle.book.specs.declared.refusal.OrderCause.TheVariants.{BareLock}
 use Rattle.aggregation.specs.Sets.{Set, un}
 use Rattle.aggregation.specs.Nets.{Shape, has}
 use Rattle.order.specs.BookShapes.{shape_in}
-use Rattle.order.specs.Firsts.{first}
 use Rattle.order.specs.Marked.{marked}
 use Rattle.order.specs.Refusals.{refused_at, bare}
 use Rattle.order.proofs.FirstOf.{first_none, first_more, first_found}
@@ -28,6 +27,3 @@ loop-lock-preserved c =
     let s = shape_in c.args.shape.now in
     let b = tested s (marked c.outside-covered.result) (marked c.none.result) c.loop-lock.lock true c.if-not-holds.ensures c.outside-covered.ensures c.none.ensures in
     first_more (bare s) c.loop-lock.lock c.loop-lock.invariant ∙ b
-
-pub returns : goal.returns
-returns c = let e : c.loop-lock.lock ≡ c.args.shape.now.locks = omega arith in sym (ap (first (bare (shape_in c.args.shape.now))) e) ∙ c.loop-lock.invariant

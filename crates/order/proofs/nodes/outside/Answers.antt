@@ -1,4 +1,4 @@
-use Rattle.std.proofs.Common.{◌≡◌, not, sym, ap, ◌∙◌, arith}
+use Rattle.std.proofs.Common.{not, sym, ap, ◌∙◌}
 use Rattle.aggregation.specs.Sets.{Set, un, among, ◌∪◌}
 use Rattle.aggregation.specs.Nets.{scopes, occ}
 use Rattle.order.specs.BookShapes.{shape_in}
@@ -21,6 +21,3 @@ loop-t-preserved c =
           ∙ occ_in (scopes s) t u (marked w.of.result) (ap not (sym c.holds.ensures ∙ w.if-not-holds.true)) (sym (w.of.ensures ∙ ap among w.scope.ensures.value))
       | else-not-holds w ↦ ap marked w.locks-is ∙ c.loop-t.invariant ∙ occ_out (scopes s) t u (ap not (sym c.holds.ensures ∙ w.if-not-holds.false))
     ]
-
-pub returns : goal.returns
-returns c = let e : c.loop-t.t ≡ c.args.shape.now.tables = omega arith in c.loop-t.invariant ∙ ap (λ n. occ (scopes (shape_in c.args.shape.now)) n (un (marked c.args.under.now))) e

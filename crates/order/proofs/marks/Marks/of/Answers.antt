@@ -1,5 +1,4 @@
-use Rattle.std.proofs.Common.{◌≡◌, ℕ, ◌+◌, ◌<◌, Bool, true, false, length, get_or, take, set, sym, refl, ap, ◌∙◌, subst, arith, length-set, take_all}
-use mathlib.Core.Path.{fun_ext}
+use Rattle.std.proofs.Common.{◌≡◌, ℕ, ◌+◌, ◌<◌, Bool, true, false, length, get_or, take, set, sym, refl, ap, ◌∙◌, subst, arith, length-set}
 use Rattle.book.specs.Scopes.{named}
 use Rattle.aggregation.specs.Sets.{among}
 use Rattle.order.proofs.Masked.{none_marked, among_more}
@@ -17,6 +16,3 @@ loop-lock-preserved c =
     let within : i < length ls = omega (arith, ap length e) in
     let small : get_or ls i 0 < length c.loop-lock.on = omega (arith, c.args.scope.now.below i within) in
     (length-set _ _ _ ∙ c.loop-lock.invariant.0, subst (λ xs. (k : ℕ) → get_or (set c.loop-lock.on (get_or xs i 0) true) k false ≡ among (take (i + 1) ls) k) (sym e) (among_more ls c.loop-lock.on i within small c.loop-lock.invariant.1))
-
-pub returns : goal.returns
-returns c = fun_ext (λ k. c.loop-lock.invariant.1 k ∙ ap (λ ls. among ls k) (take_all c.loop-lock.lock-index (named c.args.scope.now) (omega (arith, ap length c.as_slice-lock-items.ensures))))
