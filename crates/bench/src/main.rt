@@ -10,7 +10,7 @@ mod report;
 mod rows;
 mod trial;
 
-// A book to measure on.
+// A book to measure on; the fields stand in a row here so that each book of the list below fills one line.
 fn over(kind: Kind, locks: usize, holders: usize) -> Trial {
     Trial {
         kind,

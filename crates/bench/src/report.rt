@@ -43,7 +43,7 @@ pub(crate) fn line(rt: &HostRuntime, trial: Trial) -> anyhow::Result<()> {
         locks,
         holders,
     } = trial;
-    let grid = Grid::new(kind, locks, holders).context("no such book")?;
+    let grid = Grid::new(trial).context("no such book")?;
     let rows = joint_rows(&grid);
     let joins = grid.tables().saturating_sub(1);
     let case = ordered(rt.alloc(), grid)?;

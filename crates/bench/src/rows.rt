@@ -26,12 +26,13 @@ struct Span {
 }
 
 // The spans of all locks; one that no table has begins after the last table.
+// Not an Option per lock: from 64 and 0 the least and the greatest table need no first case.
 fn spans(grid: &Grid) -> [Span; 64] {
     let mut spans = [Span { first: 64, last: 0 }; 64];
     for table in 0..grid.tables() {
         let scope = grid.scope(table);
-        for place in 0..scope.len() {
-            let span = &mut spans[scope.lock(place)];
+        for lock in scope.as_slice() {
+            let span = &mut spans[*lock];
             span.first = span.first.min(table);
             span.last = table;
         }

@@ -11,7 +11,7 @@ pub(crate) struct Trial {
     pub(crate) holders: usize,
 }
 
-// A refusal as an error of the program.
+// A refusal as an error of the program. Its cause is dropped, since the program prints only this sentence.
 pub(crate) fn accepted<T: Drop>(answer: Result<T, Refusal>) -> anyhow::Result<T> {
     answer.map_err(|_| anyhow!("the engine refused a call"))
 }

@@ -4,6 +4,7 @@ ghost use Rattle.book.specs.Scopes.{named};
 ghost use Rattle.bench.specs.Grids.{tables_of, scope_of, scope_at, by_formula, grid_ranged};
 
 use super::{Grid, Kind};
+use crate::trial::Trial;
 use book::{Book, Scope};
 use std::array;
 use weighing::Charge;
@@ -59,7 +60,12 @@ fn pattern() -> [Option<Charge>; 35] {
 
 impl Grid {
     // A book with so many locks and holders, where they are 2 to 64 and 2 to 16.
-    pub(crate) fn new(kind: Kind, locks: usize, holders: usize) -> Option<Grid> {
+    pub(crate) fn new(trial: Trial) -> Option<Grid> {
+        let Trial {
+            kind,
+            locks,
+            holders,
+        } = trial;
         if locks < 2 || locks > 64 || holders < 2 || holders > 16 {
             return None;
         }
