@@ -10,6 +10,7 @@ use book::{RecordCause, Refusal};
 pub fn check_rows(text: &[u8], rows: &[RowRecord]) -> Result<usize, Refusal>
     ensures { SecondCheck text.now rows.now result }
 {
+    // The loop of `fill_rows` too: in one, the row list's contract would stand again as clauses on a closure.
     let mut scan = Scan::of(text)?;
     loop {
         let place = scan.place();

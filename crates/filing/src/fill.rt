@@ -11,6 +11,7 @@ use book::{RecordCause, Refusal};
 pub fn fill_rows(text: &[u8], rows: &mut [RowRecord]) -> Result<usize, Refusal>
     ensures { FirstCall text.now rows.old rows.new result }
 {
+    // The loop of `check_rows` too: in one, the row list's contract would stand again as clauses on a closure.
     let mut scan = Scan::of(text)?;
     loop {
         let place = scan.place();

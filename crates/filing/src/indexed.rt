@@ -1,4 +1,4 @@
-// The written book, asked through an index: it means what the written book means.
+// The book over a written one that callers name; it has no index yet, and means what the written book means.
 use crate::written::WrittenBook;
 
 #[derive(Clone, Copy)]

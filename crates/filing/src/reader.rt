@@ -42,6 +42,7 @@ pub(crate) struct Reader<'a> {
     tables: usize,
     width: usize,
     // How many rows there are, and the number of the last one.
+    // It has sense only after a row, as `last_bar` after a bar: the kind before says so, a form the project fixes.
     rows: usize,
     last_row: usize,
     joins: usize,
@@ -70,9 +71,6 @@ impl<'a> Reader<'a> {
             last_bar: (0, 0),
         }
     }
-
-    // A line's enum holds plain values (a form the project fixes), so what a line may hold is required below.
-    // Only a scan, which has the text, knows that one row more can be counted; so that is required too.
 
     // The list of locks. Only the field and the limit set it apart from the other list: `list_of` does the work.
     fn take_locks(&mut self, names: Names<'a>) -> Result<Entry, RecordCause>
@@ -192,7 +190,9 @@ impl<'a> Reader<'a> {
         Ok(Entry::Bar(lock, holder))
     }
 
-    // A line that may follow, judged by the lines before; all but its kind is noted.
+    // A line that may follow, judged by the lines before; all but its kind is noted. A line's enum holds plain values (a
+    // form the project fixes), so what a line may hold is required here and above. That one row more can be counted is
+    // required too, since only a scan, which has the text, knows it.
     fn enter(&mut self, line: Line<'a>) -> Result<Entry, RecordCause>
         requires { Good (meant line) × (self.old.rows < 65536) }
         ensures { Entered (standing_of self.old) (meant line.entry) (standing_of self.new) result }

@@ -28,7 +28,8 @@ pub(crate) fn has_twice(names: Names) -> bool
         .any(|(i, name)| stands_before(names, name, i))
 }
 
-// The number of a name in a list that may not have been read yet, if it is there.
+// The number of a name in a list that may not have been read yet, if it is there. The three functions on such a list
+// take an Option, as the reader keeps it: it has no list before that line, and a list that is read has a name.
 pub(crate) fn find_in(list: Option<Names>, name: &[u8]) -> Option<usize>
     ensures { MatchOption result (Absent (names_of list.entry) name.now) (λ i. Found (names_of list.entry) name.now i) }
 {
@@ -60,6 +61,7 @@ pub(crate) fn number_of(places: &ArrayVec<usize, 4>, holders: usize) -> usize
     requires below { Below holders places.now.items }
     ensures { result ≡ row_number holders places.now.items }
 {
+    // Tried fold: that product and sum in its closure do not overflow is not proved, as the row has no bound there.
     let mut row = 0;
     for place in places.as_slice() {
         row = row * holders + place;

@@ -49,6 +49,7 @@ impl<'a> Scan<'a> {
         ensures { MatchResult result (λ scan. (length text.now ≤ 65535) × Opened text.now scan) (λ e. (65535 < length text.now) × (e ≡ too_long)) }
     {
         if text.len() > LONGEST {
+            // Written out here: `refuse` makes a record's refusal, and this one of the line layer has no second place.
             return Err(Refusal {
                 layer: Layer::Line {
                     place: 0,
@@ -88,6 +89,7 @@ impl<'a> Scan<'a> {
     }
 
     // What the next line adds, or nothing at the end; a refusal where the line, or the end, cannot come here.
+    // Not an Iterator: callers ask the scan for its place and rows between two lines, so it stands in no `for`.
     pub(crate) fn next(&mut self) -> Result<Option<Entry>, Refusal>
         ensures { Scanned self.old self.new result }
     {

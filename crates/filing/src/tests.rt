@@ -1,4 +1,5 @@
-// What each of the four books answers at and beyond every edge, over three locks and two holders.
+// What four of the five books answer at and beyond every edge, over three locks and two holders; the fifth, the indexed
+// one, hands every question on to the written one.
 ghost use Rattle.std.specs.Prelude.{◌≡◌};
 ghost use Rattle.book.specs.Layers.{barred, bar_at, joined};
 
@@ -54,7 +55,7 @@ fn ruled() -> Result<RuleBook, Fail> {
     Ok(book)
 }
 
-// The charge of a row as a number; 100 where the row is absent.
+// The charge of a row as a number; 100 where the row is absent. No Option, since tests keep their expected values.
 fn at<B: Book>(book: &B, table: usize, row: usize) -> u32 {
     book.charge(table, row).map_or(100, |charge| charge.value())
 }

@@ -13,13 +13,15 @@ pub struct Names<'a> {
     bytes: &'a [u8],
 }
 
-// The names of a list that are still to come, in the list's order.
+// The names of a list that are still to come, in the list's order. Not the library's split: over a closure that has no
+// name for a public type.
 #[derive(Clone, Drop)]
 pub struct NamesIter<'a> {
     // What is left of the bytes; nothing after the last name.
     rest: Option<&'a [u8]>,
 }
 
+// `split` stands in four methods below: a function may hand out no closure, so none can hand out the split.
 impl<'a> Names<'a> {
     // The names that the bytes spell, if they spell any.
     pub(crate) fn read_some(bytes: &'a [u8]) -> Option<Names<'a>>
@@ -30,6 +32,7 @@ impl<'a> Names<'a> {
     }
 
     // The same, if there are from `least` to `most` of them.
+    // Two bounds, as in `read_charged`: tried one range, and it is not known that it has not been gone through already.
     pub(crate) fn read_few(bytes: &'a [u8], least: usize, most: usize) -> Option<Names<'a>>
         requires { 0 < least }
         ensures { MatchOption result ((ns : List (List ℕ)) → Named least most ns → bytes.now ≢ joined ns) (λ n. Named least most (held n) × (bytes.now ≡ joined (held n))) }

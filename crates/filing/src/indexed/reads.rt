@@ -9,7 +9,7 @@ use book::{Book, Scope};
 use weighing::Charge;
 
 impl<'a> IndexedBook<'a> {
-    // The index of a written book.
+    // The indexed book of a written book.
     pub fn of(book: WrittenBook<'a>) -> IndexedBook<'a>
         ensures { result.book ≡ book.entry }
     {
@@ -17,6 +17,7 @@ impl<'a> IndexedBook<'a> {
     }
 }
 
+// The five questions are handed on: callers keep this public type, and it has no index yet to ask instead.
 impl<'a> Book for IndexedBook<'a> {
     ghost meaning = { indexed };
 

@@ -26,10 +26,12 @@ impl<'a> WrittenBook<'a> {
         ensures value { Grown (written self.old) (written self.new) (named scope) (listed self.old.rows.now (written self.old).tables) }
         ensures same { self.new.rows.now ≡ self.old.rows.now }
     {
-        self.shape.add(scope);
+        // True, since what is required is what the shape tests.
+        let _ = self.shape.add(scope);
     }
 }
 
+// The rule book hands the same four questions to its shape: a trait with one method and two impls would be longer.
 impl<'a> Book for WrittenBook<'a> {
     ghost meaning = { written };
 
