@@ -8,7 +8,7 @@ use crate::{Capped, Charge, Weighing};
 // The largest amount: what a larger sum is cut to.
 const MOST: u32 = 1_000_000_000;
 
-// The plain value of none, above every amount.
+// The plain value of none, above every amount: cells hold plain values, a form the project fixes.
 const NO_COST: u32 = u32::MAX;
 
 // A finite cost.

@@ -18,9 +18,7 @@ fn a_sum_of_costs_is_cut_at_the_limit(rt: HostRuntime) {
 
 #[test]
 fn the_largest_charge_has_the_grade_of_free(rt: HostRuntime) -> Result<(), Fail> {
-    let Some(charge) = Charge::new(1_000_000) else {
-        return Err(Fail::new("in range"));
-    };
+    let charge = Charge::new(1_000_000).ok_or("in range")?;
     assert_eq!(rt; Grade::weigh(charge).value(), 1_000_001);
     assert_eq!(rt; Grade::free().value(), 1_000_001);
     assert!(rt; Charge::new(1_000_001).is_none());
@@ -36,9 +34,7 @@ fn a_damaged_plain_value_is_none(rt: HostRuntime) {
 
 #[test]
 fn rows_weigh_together(rt: HostRuntime) -> Result<(), Fail> {
-    let Some(three) = Charge::new(3) else {
-        return Err(Fail::new("in range"));
-    };
+    let three = Charge::new(3).ok_or("in range")?;
     let zero = Charge::ZERO;
     assert_eq!(rt; weigh_all::<Cost>(&[three, zero, three]).amount(), Some(6));
     assert_eq!(rt; weigh_all::<Grade>(&[three, zero]).value(), 1);
