@@ -44,7 +44,7 @@ impl<B> Barred<B> {
     }
 }
 
-// What the bars say of a pair.
+// What the bars say of a pair. Here and below the array itself goes along: the public field of `Barred` has this type.
 fn bar(bars: &[[bool; 16]; 64], lock: usize, holder: usize) -> bool
     ensures { result ≡ bar_at bars.now lock holder }
 {
@@ -91,6 +91,7 @@ fn touched(bars: &[[bool; 16]; 64], holders: usize, scope: &Scope, row: usize) -
     requires { (0 < holders) × (holders ≤ 16) }
     ensures { result ≡ touches (bar_at bars.now) holders (named scope.now) row }
 {
+    // A loop, since each digit needs what the last one left: an `any` would have to write to what it captures.
     let mut left = row;
     let mut place = holders.pow(scope.len() as u32);
     for lock in scope.as_slice() {

@@ -13,3 +13,5 @@ pub struct Scope {
 }
 
 mod reads;
+
+pub(crate) use reads::is_below;

@@ -42,7 +42,7 @@ impl Scope {
     pub fn of(locks: &[usize]) -> Option<Scope>
         ensures { MatchOption result (Rising locks.now → Below 64 locks.now → 6 < length locks.now) (λ s. named s ≡ locks.now) }
     {
-        if locks.len() > 6 || !is_rising(locks) || !is_below(locks) {
+        if locks.len() > 6 || !is_rising(locks) || !is_below(64, locks) {
             return None;
         }
         let mut row = [0; 6];
@@ -61,9 +61,9 @@ fn is_rising(locks: &[usize]) -> bool
     locks.is_sorted_by(|before, lock| *before < *lock)
 }
 
-// Whether each lock is below 64.
-fn is_below(locks: &[usize]) -> bool
-    ensures { IsTrue result ↔ Below 64 locks.now }
+// Whether each lock is below a limit.
+pub(crate) fn is_below(limit: usize, locks: &[usize]) -> bool
+    ensures { IsTrue result ↔ Below limit locks.now }
 {
-    locks.iter().all(|lock| *lock < 64)
+    locks.iter().all(|lock| *lock < limit)
 }

@@ -4,6 +4,7 @@ ghost use Rattle.book.specs.Shapes.{Fit, Numbers};
 ghost use Rattle.book.specs.BookShapes.{Empty, OneMore, ShapeOf};
 
 use super::BookShape;
+use crate::scope::is_below;
 use crate::{Book, Scope};
 
 impl BookShape {
@@ -58,5 +59,5 @@ fn fits(scope: &Scope, locks: usize) -> bool
     ensures { IsTrue result ↔ Fit locks (named scope.now) }
 {
     let named = scope.as_slice();
-    0 < named.len() && named.len() <= 4 && named.iter().all(|lock| *lock < locks)
+    0 < named.len() && named.len() <= 4 && is_below(locks, named)
 }
