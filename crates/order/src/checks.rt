@@ -29,12 +29,10 @@ fn no_bare_lock(shape: &BookShape) -> Result<(), Refusal>
     ensures { MatchResult result (λ _. first (bare (shape_in shape.now)) (shape_in shape.now).locks ≡ None) (λ e. first (bare (shape_in shape.now)) (shape_in shape.now).locks ≡ Some e) }
 {
     let covered = outside(shape, &Marks::none());
-    for lock in 0..shape.locks() {
-        if !covered.holds(lock) {
-            return Err(refuse(lock, OrderCause::BareLock));
-        }
+    match (0..shape.locks()).find(|lock| !covered.holds(*lock)) {
+        Some(lock) => Err(refuse(lock, OrderCause::BareLock)),
+        None => Ok(()),
     }
-    Ok(())
 }
 
 // How many rows there are over a scope.
@@ -58,6 +56,7 @@ pub fn check(shape: &BookShape, joins: &[Join]) -> Result<Plan, Refusal>
     let mut progress = Progress::start(shape, joins);
     let mut parts = [Part::none(); 64];
     let mut cells = 0;
+    // By index: nothing is known of the parts after `iter_mut().zip` (tried in `Marks::or`), and `enumerate` would index joins.
     for (i, join) in joins.iter().enumerate() {
         let kept = progress.take()?;
         parts[i] = Part {

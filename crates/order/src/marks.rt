@@ -48,14 +48,14 @@ impl Marks {
         self.on.get(k).map_or(false, |on| *on)
     }
 
-    // The numbers of either set. By index, here and below: tried `from_fn`, and the gate then wrote no statements of this
-    // crate. This and the next stay two: one function with a closure is longer than both bodies.
+    // The numbers of either set. By place, here and below: tried `iter_mut().zip`, of whose elements nothing is known after.
+    // This and the next stay two: one function with a closure is longer than both bodies.
     pub(crate) fn or(&self, other: &Marks) -> Marks
         ensures { marked result ≡ marked self.now ∪ marked other.now }
     {
         let mut on = [false; 64];
-        for k in 0..64 {
-            on[k] = self.on[k] | other.on[k];
+        for (k, mark) in on.iter_mut().enumerate() {
+            *mark = self.on[k] | other.on[k];
         }
         Marks { on }
     }
@@ -65,8 +65,8 @@ impl Marks {
         ensures { marked result ≡ marked self.now ∩ marked other.now }
     {
         let mut on = [false; 64];
-        for k in 0..64 {
-            on[k] = self.on[k] & other.on[k];
+        for (k, mark) in on.iter_mut().enumerate() {
+            *mark = self.on[k] & other.on[k];
         }
         Marks { on }
     }

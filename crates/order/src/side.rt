@@ -9,7 +9,7 @@ pub enum Side {
     Joined(usize),
 }
 
-// The join above a node, and whether the node is its first side.
+// The join above a node, and whether the node is its first side: the flag names the side, no value depends on it.
 #[derive(Clone, Copy)]
 pub struct Above {
     pub join: usize,

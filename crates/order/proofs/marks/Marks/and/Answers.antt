@@ -4,11 +4,8 @@ use Rattle.order.specs.Marked.{marked}
 use Rattle.order.proofs.Masked.{filled_all, past_and}
 use Rattle.order.proofs.marks.Marks.and.Goals as goal
 
-pub loop-k-init : goal.loop-k-init
-loop-k-init c = (refl, λ k h. absurd (omega arith))
-
 pub loop-k-preserved : goal.loop-k-preserved
-loop-k-preserved c = (length-set _ _ _ ∙ c.loop-k.invariant.0, places_more (λ (b : Bool). b) false (λ k. marked c.args.self.now k && marked c.args.other.now k) c.loop-k.on c.loop-k.k _ (omega arith) refl c.loop-k.invariant.1)
+loop-k-preserved c = places_more (λ (b : Bool). b) false (λ k. marked c.args.self.now k && marked c.args.other.now k) c.loop-k.mark-items c.loop-k.k _ (omega arith) refl c.loop-k.invariant
 
 pub returns : goal.returns
-returns c = filled_all (λ k. marked c.args.self.now k && marked c.args.other.now k) c.loop-k.on 64 (omega arith) (λ k h. c.loop-k.invariant.1 k (omega arith)) (λ k h. past_and c.args.self.now.on c.args.other.now.on k (omega arith) (omega arith))
+returns c = filled_all (λ k. marked c.args.self.now k && marked c.args.other.now k) c.loop-k.mark-items 64 (omega arith) (λ k h. c.loop-k.invariant k (omega arith)) (λ k h. past_and c.args.self.now.on c.args.other.now.on k (omega arith) (omega arith))

@@ -1,6 +1,6 @@
-use Rattle.std.proofs.Common.{◌≡◌, ℕ, ◌<◌, false, ◌&&◌, length, get_or}
+use Rattle.std.proofs.Common.{◌≡◌, ℕ, ◌<◌, false, ◌&&◌, get_or}
 use Rattle.order.specs.Marked.{marked}
 use Rattle.order.proofs.marks.Marks.and.Given as goal
 
 abbrev pub invariant-loop-k : goal.invariant-loop-k
-invariant-loop-k l = (length l.on ≡ 64) × ((k : ℕ) → k < l.k → get_or l.on k false ≡ (marked l.self k && marked l.other k))
+invariant-loop-k l = (k : ℕ) → k < l.k → get_or l.mark-items k false ≡ (marked l.self k && marked l.other k)
