@@ -1,4 +1,4 @@
-use Rattle.std.proofs.Common.{Bool, false, ◌&&◌, refl, ◌∙◌, arith, length-set}
+use Rattle.std.proofs.Common.{Bool, false, ◌&&◌, refl, arith}
 use Rattle.order.proofs.Places.{places_more}
 use Rattle.order.specs.Marked.{marked}
 use Rattle.order.proofs.Masked.{filled_all, past_and}
