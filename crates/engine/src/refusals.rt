@@ -1,6 +1,6 @@
 // The tests that a call makes before it does anything, each with its refusal.
-ghost use Rattle.std.specs.Prelude.{◌≡◌};
-ghost use Rattle.engine.specs.Questions.{answered, asked_at, beyond, few_cells, short_output};
+ghost use Rattle.std.specs.Prelude.{◌≡◌, cond, nat_lt, Some, None};
+ghost use Rattle.engine.specs.Questions.{answered, asked_at, beyond};
 
 use book::{Layer, QuestionCause, Refusal};
 
@@ -24,23 +24,12 @@ pub(crate) fn listed(number: usize, end: usize) -> Result<(), Refusal>
     }
 }
 
-// Refuses fewer cells than needed.
-pub(crate) fn enough_cells(need: usize, cells: usize) -> Result<(), Refusal>
-    ensures { result ≡ answered (few_cells need cells) tt }
+// Refuses fewer cells, or places of output, than needed.
+pub(crate) fn enough(need: usize, given: usize, cause: QuestionCause) -> Result<(), Refusal>
+    ensures { result ≡ answered (cond (nat_lt given need) (Some (asked_at need cause)) None) tt }
 {
-    if cells < need {
-        Err(refused(need, QuestionCause::FewCells))
-    } else {
-        Ok(())
-    }
-}
-
-// Refuses an output that is too short.
-pub(crate) fn enough_output(need: usize, places: usize) -> Result<(), Refusal>
-    ensures { result ≡ answered (short_output need places) tt }
-{
-    if places < need {
-        Err(refused(need, QuestionCause::ShortOutput))
+    if given < need {
+        Err(refused(need, cause))
     } else {
         Ok(())
     }

@@ -36,6 +36,7 @@ impl<B: Book + Drop> Case<B> {
     {
         self.plan
             .as_ref()
-            .map_or(Join { left: 0, right: 0 }, |plan| plan.join(i))
+            .map(|plan| plan.join(i))
+            .unwrap_or_default()
     }
 }
