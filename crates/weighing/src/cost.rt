@@ -17,7 +17,7 @@ pub type Amount = Capped<MOST>;
 // An amount; without one, what cannot be paid.
 #[derive(Clone, Copy, Debug, PartialEq, Eq)]
 pub struct Cost {
-    amount: Option<Amount>,
+    pub amount: Option<Amount>,
 }
 
 impl Cost {

@@ -4,8 +4,8 @@ ghost use Rattle.weighing.specs.GradeLaws.{grade_laws, grade_decides};
 
 use crate::{Capped, Charge, Weighing};
 
-// The largest grade: that of what is free.
-const MOST: u32 = 1_000_001;
+// The largest grade, that of what is free: one above that of the largest charge.
+const MOST: u32 = Charge::MOST + 1;
 
 // A number from 0 to 1,000,001.
 pub type Grade = Capped<MOST>;
