@@ -7,7 +7,7 @@ use Rattle.std.specs.Str.Parse.{AllDigits, digits_value, ParsesUnsigned}
 use Rattle.std.proofs.lemmas.Bool.{leb-true, leb-false}
 use Rattle.std.proofs.lemmas.Str.{IsUtf8-from_ascii}
 use Rattle.std.proofs.lemmas.Str.Parse.{IsNumeralModel, numerals_by_value, tells_digits, digit_at, parse_plain}
-use Rattle.std.proofs.lemmas.Fmt.{decimal_nonempty, decimal_digit, first_decimal, digits_decimal, digits_value-decimal, decimal-digits_value, IsAscii-from_digits}
+use Rattle.std.proofs.lemmas.Fmt.{length-decimal-le, decimal_nonempty, decimal_digit, first_decimal, digits_decimal, digits_value-decimal, decimal-digits_value, IsAscii-from_digits}
 use Rattle.std.proofs.str.Laws.{order}
 use Rattle.lines.specs.Numbers.{Spelled}
 
@@ -41,6 +41,10 @@ front bs n s =
           (λ none. let z : n ≡ 0 = omega arith in omega (arith, ap length (s.is ∙ ap decimal z ∙ decimal_digit 0 (omega arith))))
           (order 0 n);
     }
+
+-- no number has more digits than a million
+pub not_long : (bs : List ℕ) (n : ℕ) → Spelled n bs → length bs ≤ 7
+not_long bs n s = omega (arith, ap length s.is, length-decimal-le 7 n (omega arith) (omega (arith, s.small)) (wide n s.small))
 
 -- bytes that are no text spell no number
 pub not_text : {T E : Type 0} (P : T → Type 0) (Q : E → Type 0) (bs : List ℕ) (r : Result T E) → MatchResult r P (λ e. (IsUtf8 bs → ⊥) × Q e) → result_ok r ≡ None → (n : ℕ) → Spelled n bs → ⊥

@@ -1,7 +1,8 @@
 // Names: 1 to 24 letters, digits, `-` or `_`.
 ghost use Rattle.std.specs.Prelude.{◌≡◌};
 ghost use Rattle.weighing.specs.Tests.{Tells};
-ghost use Rattle.lines.specs.Names.{name_byte, Name};
+ghost use Rattle.std.specs.List.{AllByRecursion};
+ghost use Rattle.lines.specs.Names.{name_byte, Name, pieces};
 
 // The most bytes that a name has.
 const LONGEST: usize = 24;
@@ -17,4 +18,19 @@ pub fn is_name(bytes: &[u8]) -> bool
     ensures { Tells (Name bytes.now) result }
 {
     !bytes.is_empty() && bytes.len() <= LONGEST && bytes.iter().all(|b| is_name_byte(*b))
+}
+
+// Whether the bytes are names with commas between. It goes on only as far as a byte that no name has: a split at the
+// commas would look for the next comma first, however far that is.
+pub(crate) fn are_names(bytes: &[u8]) -> bool
+    ensures { Tells (AllByRecursion Name (pieces bytes.now)) result }
+{
+    let mut rest = bytes;
+    while let Some(i) = rest.iter().position(|b| !is_name_byte(*b)) {
+        if rest[i] != b',' || i == 0 || i > LONGEST {
+            return false;
+        }
+        rest = &rest[i + 1..];
+    }
+    is_name(rest)
 }

@@ -5,7 +5,7 @@ ghost use Rattle.lines.specs.Names.{joined, FirstAt, Absent};
 ghost use Rattle.lines.specs.Told.{held, left, SomeNamed, Named};
 
 use super::cut::{Mark, cut_at};
-use super::name::is_name;
+use super::name::are_names;
 
 // How many names there are is no invariant: the bounds that the contracts state differ by the line's kind.
 #[derive(Clone, Copy)]
@@ -21,14 +21,13 @@ pub struct NamesIter<'a> {
     rest: Option<&'a [u8]>,
 }
 
-// `split` stands in four methods below: a function may hand out no closure, so none can hand out the split.
+// `split` stands in three methods below: a function may hand out no closure, so none can hand out the split.
 impl<'a> Names<'a> {
     // The names that the bytes spell, if they spell any.
     pub(crate) fn read_some(bytes: &'a [u8]) -> Option<Names<'a>>
         ensures { MatchOption result ((ns : List (List ℕ)) → SomeNamed ns → bytes.now ≢ joined ns) (λ n. SomeNamed (held n) × (bytes.now ≡ joined (held n))) }
     {
-        let named = bytes.split(|b| *b == b',').all(is_name);
-        named.then_some(Names { bytes })
+        are_names(bytes).then_some(Names { bytes })
     }
 
     // The same, if there are from `least` to `most` of them.

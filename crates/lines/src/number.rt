@@ -2,8 +2,10 @@
 ghost use Rattle.std.specs.Prelude.{ℕ, MatchOption};
 ghost use Rattle.lines.specs.Numbers.{Spelled};
 
-// The largest number of the format.
+// The largest number of the format, and how many digits it has.
 const MOST: u32 = 1_000_000;
+
+const LONGEST: usize = 7;
 
 // The number that the bytes spell, if they spell one.
 pub fn read_number(bytes: &[u8]) -> Option<u32>
@@ -12,6 +14,8 @@ pub fn read_number(bytes: &[u8]) -> Option<u32>
     match bytes {
         // `parse` reads these, and the format does not have them.
         [b'0', _, ..] | [b'+', ..] => None,
+        // More digits than the largest number has are not gone through.
+        _ if bytes.len() > LONGEST => None,
         _ => {
             let digits = str::from_utf8(bytes).ok()?;
             digits.parse().ok().filter(|n| *n <= MOST)
