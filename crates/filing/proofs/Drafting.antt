@@ -11,7 +11,7 @@ use Rattle.filing.specs.declared.reader.Entry.TheVariants as entry
 use Rattle.filing.specs.declared.record.RowRecord.{RowRecord}
 use Rattle.filing.specs.declared.rule.Rule.{Rule}
 use Rattle.filing.specs.Contents.{Ruling, Pair, barred_in_turn, BookOf, ruled_by}
-use Rattle.filing.specs.Drafts.{Holds, Extends}
+use Rattle.filing.specs.Drafts.{Holds, Extends, noted_joins}
 use Rattle.filing.specs.Rules.{by_rules, ruled}
 use Rattle.filing.specs.Shapes.{Grown}
 use Rattle.filing.specs.Written.{listed, written}
@@ -38,8 +38,8 @@ module _ (d f : Draft) where
   same_book : (L H : ℕ) (rs : List Ruling) → f.rules ≡ d.rules → BookOf (by_rules d.rules) L H (map (λ r. r.scope) rs) (ruled_by H rs) → BookOf (by_rules f.rules) L H (map (λ r. r.scope) (rs ++ [])) (ruled_by H (rs ++ []))
   same_book L H rs rules b = same_rules _ L H rs (subst (λ q. BookOf (by_rules q) L H (map (λ r. r.scope) rs) (ruled_by H rs)) (sym rules) b)
 
-  same_joins : (js : List Join) → f.joins ≡ d.joins → d.joins.items ≡ js → f.joins.items ≡ js ++ []
-  same_joins js joins h = ap (λ j. j.items) joins ∙ h ∙ sym (append-nil js)
+  same_joins : (js : List Join) → f.joins ≡ d.joins → noted_joins d.joins ≡ js → noted_joins f.joins ≡ js ++ []
+  same_joins js joins h = ap noted_joins joins ∙ h ∙ sym (append-nil js)
 
   same_bars : (ps : List Pair) → f.bars ≡ d.bars → bar_at d.bars.bars ≡ barred_in_turn (λ lock holder. false) ps → bar_at f.bars.bars ≡ barred_in_turn (λ lock holder. false) (ps ++ [])
   same_bars ps bars h = ap (λ b. bar_at b.bars) bars ∙ h ∙ ap (barred_in_turn (λ lock holder. false)) (sym (append-nil ps))
@@ -62,7 +62,7 @@ module _ (d f : Draft) where
     bars_so = same_bars ps bars h.bars_so;
   }
 
-  pub hold_join : (m n : ℕ) → f.joins.items ≡ d.joins.items ++ (record { left = m; right = n } ∷ []) → f.written ≡ d.written → f.rules ≡ d.rules → f.bars ≡ d.bars → Extends d f (entry.Join m n)
+  pub hold_join : (m n : ℕ) → noted_joins f.joins ≡ noted_joins d.joins ++ (record { left = m; right = n } ∷ []) → f.written ≡ d.written → f.rules ≡ d.rules → f.bars ≡ d.bars → Extends d f (entry.Join m n)
   hold_join m n pushed books rules bars L H rows xs rs js ps h = record {
     lent = ap (λ w. w.rows.now) books ∙ h.lent;
     written_so = same_tables L H rows xs books h.written_so;

@@ -1,5 +1,5 @@
 -- Gathering what the lines of a text say, line by line.
-use Rattle.std.proofs.Common.{◌≡◌, ℕ, ◌+◌, ◌<◌, ◌≤◌, max, true, false, List, [], ◌∷◌, ◌++◌, map, length, Some, None, Option, sym, refl, ap, ◌∙◌, subst, ⊎_elim, arith, length-append}
+use Rattle.std.proofs.Common.{◌≡◌, ℕ, ◌+◌, ◌<◌, ◌≤◌, max, true, false, List, [], ◌∷◌, ◌++◌, map, length, Some, None, Option, sym, refl, ap, ◌∙◌, subst, ⊎_elim, arith, length-append, length-take}
 use borrow.Author.Tests.{clash}
 use Rattle.std.proofs.lemmas.List.{length-map}
 use Rattle.std.proofs.str.Laws.{order}
@@ -18,7 +18,7 @@ use Rattle.filing.specs.declared.reader.Entry.TheVariants as entry
 use Rattle.filing.specs.declared.record.RowRecord.{RowRecord}
 use Rattle.filing.specs.declared.scan.Scan.{Scan}
 use Rattle.filing.specs.Contents.{gather, line_scopes, Ruling, line_rules, line_joins, Pair, line_bars, scopes_of, rules_of, joins_of, bars_of, barred_in_turn, BookOf, ruled_by}
-use Rattle.filing.specs.Drafts.{entry_scopes, entry_rules, entry_joins, Holds, RoomFor, Extends}
+use Rattle.filing.specs.Drafts.{entry_scopes, entry_rules, entry_joins, Holds, RoomFor, Extends, noted_joins}
 use Rattle.filing.specs.Follows.{may_follow, may_end, kind_code}
 use Rattle.filing.specs.Judging.{Passes}
 use Rattle.filing.specs.Readers.{AnyRow, Adds, Over}
@@ -140,7 +140,7 @@ module _ (s : Standing) (rows : List RowRecord) (xs : List (List ℕ)) (rs : Lis
       (omega (arith, rules_few (below_64 _ (p TooMany)), h.rules_so.tables), fits ns 2 a.0 _ h.rules_so.locks (omega arith) (wide ns g.0) a.1, two ns a.0 g.0 a.1)
   room_for (join i k) e a g p =
       subst (RoomFor d) (sym a)
-      (omega (arith, joins, ap length h.joins_so, ⊎_elim (λ l. l) (λ w. absurd (p TooMany w)) (order s.joins 63)))
+      (omega (arith, joins, ap length h.joins_so, length-take d.joins.len d.joins.at, d.joins.few, d.joins.size, ⊎_elim (λ l. l) (λ w. absurd (p TooMany w)) (order s.joins 63)))
   room_for (bar l k) e a g p = subst (RoomFor d) (sym a) tt
 
 -- the lines so far and what is gathered of them
@@ -280,7 +280,7 @@ meant_by text rows us p d g halt ts acc eq ls hs le he f fin = ⊎_elim ended st
               subst (λ w. BookOf (by_rules w) (length (lock_names ts)) (length (holder_names ts)) (map (λ r. r.scope) (rules_of ts)) (ruled_by (length (holder_names ts)) (rules_of ts))) (sym fin.rules_so)
               (subst (λ v. BookOf (by_rules d.rules) (length (lock_names ts)) (length (holder_names ts)) (map (λ r. r.scope) (rules_of v)) (ruled_by (length (holder_names ts)) (rules_of v))) e
               (subst (λ q. BookOf (by_rules d.rules) (length q.locks) (length q.holders) (map (λ r. r.scope) (rules_of us)) (ruled_by (length q.holders) (rules_of us))) s h.rules_so));
-          joins = ap (λ j. j.items) fin.joins_so ∙ h.joins_so ∙ ap joins_of e;
+          joins = ap noted_joins fin.joins_so ∙ h.joins_so ∙ ap joins_of e;
           bars = ap bar_at fin.bars_so ∙ h.bars_so ∙ ap (λ v. barred_in_turn (λ lock holder. false) (bars_of v)) e;
         }
 

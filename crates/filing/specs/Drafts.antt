@@ -1,10 +1,10 @@
 -- The contents of a case as they are gathered, entry by entry.
-use Rattle.std.specs.Prelude.{◌≡◌, ℕ, ◌<◌, false, List, [], ◌∷◌, ◌++◌, map, length}
-use Rattle.arrayvec.specs.ArrayVec.{array_vec_len}
+use Rattle.std.specs.Prelude.{◌≡◌, ℕ, ◌<◌, false, List, [], ◌∷◌, ◌++◌, map, length, take}
 use Rattle.aggregation.specs.declared.join.Join.{Join}
 use Rattle.book.specs.Layers.{bar_at}
 use Rattle.book.specs.Scopes.{named}
 use Rattle.filing.specs.declared.draft.Draft.{Draft}
+use Rattle.filing.specs.declared.joins.Joins.{Joins}
 use Rattle.filing.specs.declared.reader.Entry.{Entry}
 use Rattle.filing.specs.declared.reader.Entry.TheVariants as entry
 use Rattle.filing.specs.declared.record.RowRecord.{RowRecord}
@@ -47,12 +47,16 @@ entry_bars (entry.Rule scope r) = []
 entry_bars (entry.Join m n) = []
 entry_bars (entry.Bar l h) = record { lock = l; holder = h } ∷ []
 
+-- the joins that are noted
+abbrev pub noted_joins : Joins → List Join
+noted_joins j = take j.len j.at
+
 -- A draft holds these scopes, rules, joins and bars, in a case with so many locks and holders whose row list is this.
 pub record Holds (L H : ℕ) (rows : List RowRecord) (xs : List (List ℕ)) (rs : List Ruling) (js : List Join) (ps : List Pair) (d : Draft) : Type 0 where
   pub lent : d.written.rows.now ≡ rows
   pub written_so : BookOf (written d.written) L H xs (listed rows)
   pub rules_so : BookOf (by_rules d.rules) L H (map (λ r. r.scope) rs) (ruled_by H rs)
-  pub joins_so : d.joins.items ≡ js
+  pub joins_so : noted_joins d.joins ≡ js
   pub bars_so : bar_at d.bars.bars ≡ barred_in_turn (λ lock holder. false) ps
 
 -- there is room for an entry, and its scope fits
@@ -61,7 +65,7 @@ RoomFor d entry.Names = Unit {0}
 RoomFor d (entry.Table scope) = ((written d.written).tables < 64) × Fit (written d.written).locks (named scope)
 RoomFor d (entry.Row r) = Unit {0}
 RoomFor d (entry.Rule scope r) = ((by_rules d.rules).tables < 64) × Fit (by_rules d.rules).locks (named scope) × (length (named scope) ≡ 2)
-RoomFor d (entry.Join m n) = array_vec_len d.joins < 63
+RoomFor d (entry.Join m n) = d.joins.len < 63
 RoomFor d (entry.Bar l h) = Unit {0}
 
 -- one draft is another with an entry added

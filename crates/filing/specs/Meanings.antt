@@ -9,6 +9,7 @@ use Rattle.filing.specs.declared.second.Filing.{Filing}
 use Rattle.book.specs.declared.refusal.Refusal.{Refusal}
 use Rattle.filing.specs.Standing.{at_start, after_all, all_rows}
 use Rattle.filing.specs.Contents.{scopes_of, rules_of, joins_of, bars_of, barred_in_turn, BookOf, ruled_by}
+use Rattle.filing.specs.Drafts.{noted_joins}
 use Rattle.filing.specs.Reading.{OtherRow, Accepted, Refused}
 use Rattle.filing.specs.Resolving.{names_of}
 use Rattle.filing.specs.Rules.{by_rules}
@@ -37,7 +38,7 @@ pub record Means (ts : List Told) (f : Filing) : Type 0 where
   pub holders : names_of f.holders.names ≡ holder_names ts
   pub tables : BookOf (written f.written) (length (lock_names ts)) (length (holder_names ts)) (scopes_of ts) (listed (all_rows at_start ts))
   pub rules : BookOf (by_rules f.rules) (length (lock_names ts)) (length (holder_names ts)) (map (λ r. r.scope) (rules_of ts)) (ruled_by (length (holder_names ts)) (rules_of ts))
-  pub joins : f.joins.items ≡ joins_of ts
+  pub joins : noted_joins f.joins ≡ joins_of ts
   pub bars : bar_at f.bars ≡ barred_in_turn (λ lock holder. false) (bars_of ts)
 
 -- The second call: the text is some lines whose rows stand at the front of the list, and the filing is what they

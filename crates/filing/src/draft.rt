@@ -2,19 +2,19 @@
 ghost use Rattle.std.specs.Prelude.{◌≡◌, []};
 ghost use Rattle.filing.specs.Drafts.{Holds, RoomFor, Extends};
 
+use crate::joins::Joins;
 use crate::reader::Entry;
 use crate::record::RowRecord;
 use crate::rule::RuleBook;
 use crate::written::WrittenBook;
 use aggregation::Join;
-use arrayvec::ArrayVec;
 use book::{Barred, BookShape};
 
 #[derive(Drop)]
 pub(crate) struct Draft<'a> {
     pub(crate) written: WrittenBook<'a>,
     pub(crate) rules: RuleBook,
-    pub(crate) joins: ArrayVec<Join, 63>,
+    pub(crate) joins: Joins,
     pub(crate) bars: Barred<()>,
 }
 
@@ -27,7 +27,7 @@ impl<'a> Draft<'a> {
         Draft {
             written: WrittenBook::new(shape, rows),
             rules: RuleBook::new(shape),
-            joins: ArrayVec::new(),
+            joins: Joins::new(),
             bars: Barred::new(()),
         }
     }

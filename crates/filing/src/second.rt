@@ -10,6 +10,7 @@ ghost use Rattle.filing.specs.Meanings.{Finished, Means, SecondCall};
 
 use crate::check::check_rows;
 use crate::draft::Draft;
+use crate::joins::Joins;
 use crate::names::NameList;
 use crate::reader::Entry;
 use crate::record::RowRecord;
@@ -17,8 +18,6 @@ use crate::resolve::count_in;
 use crate::rule::RuleBook;
 use crate::scan::Scan;
 use crate::written::WrittenBook;
-use aggregation::Join;
-use arrayvec::ArrayVec;
 use book::{BookShape, Refusal};
 
 // What a text says: its two books, its name lists, its joins and its bars.
@@ -28,7 +27,7 @@ pub struct Filing<'a> {
     pub rules: RuleBook,
     pub locks: NameList<'a>,
     pub holders: NameList<'a>,
-    pub joins: ArrayVec<Join, 63>,
+    pub joins: Joins,
     pub bars: [[bool; 16]; 64],
 }
 
