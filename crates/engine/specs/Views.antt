@@ -17,7 +17,7 @@ order_length (Some js) = Some (length js)
 module _ {B : Type 0} {g : books.Ghosts B} (c : Case B g) where
   -- its book
   abbrev pub book_in : B
-  book_in = c.book.book
+  book_in = c.book.book.book
 
   -- what its book means, without the bars
   abbrev pub book_meaning : Meaning

@@ -8,10 +8,11 @@ ghost use Rattle.engine.specs.Views.{book_in, shape_now, bars_now, order_now};
 ghost use Rattle.engine.specs.Questions.{answered, left_by, pair_refusal};
 
 use super::Case;
+use crate::framed::Framed;
 use crate::refusals::listed;
 use aggregation::Join;
 use book::{Barred, Book, Refusal};
-use order::{BookShape, check};
+use order::check;
 
 impl<B: Book + Drop> Case<B> {
     // A case of a book, with no bars and no order.
@@ -22,7 +23,7 @@ impl<B: Book + Drop> Case<B> {
         ensures order { order_now result ≡ None }
     {
         Case {
-            book: Barred::new(book),
+            book: Barred::new(Framed::of(book)),
             plan: None,
         }
     }
@@ -34,7 +35,7 @@ impl<B: Book + Drop> Case<B> {
         ensures bars { bars_now self.new ≡ bars_now self.old }
         ensures same { book_in self.new ≡ book_in self.old }
     {
-        self.plan = Some(check(&BookShape::of(&self.book.book), joins)?);
+        self.plan = Some(check(&self.book.book.shape, joins)?);
         Ok(())
     }
 

@@ -13,7 +13,7 @@ impl<B: Book + Drop> Case<B> {
     pub fn book(&self) -> &B
         ensures { result.now ≡ book_in self.now }
     {
-        &self.book.book
+        &self.book.book.book
     }
 
     // Whether a pair is barred.
