@@ -8,7 +8,7 @@ use Rattle.std.proofs.lemmas.List.Elements.{All-nil, All-cons, All-weaker, All-f
 use Rattle.std.proofs.lemmas.List.Splits.{slice_split_none, slice_split_at, length-slice_split, join_with_byte-slice_split}
 use Rattle.std.proofs.lemmas.Option.{slice_get_cases, slice_get_within, get_or_from_slice_get}
 use Rattle.weighing.specs.Tests.{Tells}
-use Rattle.lines.specs.Names.{name_byte, NameBytes, Name, joined, pieces, FirstAt, Absent}
+use Rattle.lines.specs.Names.{name_byte, NameBytes, Name, NameEnds, AllNamed, joined, pieces, FirstAt, Absent}
 use Rattle.lines.specs.Told.{held, SomeNamed, Named}
 use Rattle.lines.specs.Bodies.{NoNames, NoFew}
 use Rattle.lines.specs.Cuts.{Lacks, Cut}
@@ -44,9 +44,6 @@ pub some_piece : (bs : List ℕ) → 1 ≤ length (pieces bs)
 some_piece bs = omega (arith, length-slice_split (λ b. eqb b 44) bs)
 
 -- names spell the bytes where each piece is a name, and nowhere else
-abbrev pub AllNamed : List ℕ → Type 0
-AllNamed bs = AllByRecursion Name (pieces bs)
-
 pub some_of : (n : Names) (r : Bool) → Tells (AllNamed n.bytes.now) r → MatchOption (then_some r n) (NoNames n.bytes.now) (λ m. SomeNamed (held m) × (n.bytes.now ≡ joined (held m)))
 some_of n true h = (record { names = h.sound refl; some = some_piece n.bytes.now }, sym (joined_pieces n.bytes.now))
 some_of n false h = λ ns s e. let no = h.full (subst (AllByRecursion Name) (sym (ap pieces e ∙ pieces_joined ns s)) s.names) in cc
@@ -87,40 +84,38 @@ pub record SameNaming (bytes rest : List ℕ) : Type 0 where
   pub back : AllNamed rest → AllNamed bytes
 
 -- what `position` says of the first byte that no name has
-pub record Stop (rest : List ℕ) (i : ℕ) : Type 0 where
-  pub within : i < length rest
-  pub here : name_byte (get_or rest i 0) ≡ false
-  pub front : NameBytes (take i rest)
-
-pub stop_at : (rest : List ℕ) (i : ℕ) → (i < length rest) × HoldsAt (λ b. name_byte b ≡ false) rest i × AllWithin (λ b. name_byte b ≡ true) rest 0 i → Stop rest i
-stop_at rest i h = record {
+pub end_found : (bs : List ℕ) (r : Option ℕ) → MatchOption r (AllWithin (λ b. name_byte b ≡ true) bs 0 (length bs)) (λ i. (i < length bs) × HoldsAt (λ b. name_byte b ≡ false) bs i × AllWithin (λ b. name_byte b ≡ true) bs 0 i) → MatchOption r (NameBytes bs) (λ i. NameEnds bs i)
+end_found bs None h = All-from_get_or (λ b. name_byte b ≡ true) bs 0 (λ k l. h k 0 (omega arith) l)
+end_found bs (Some i) h = record {
   within = h.0;
   here = h.1 0;
-  front = All-from_get_or (λ b. name_byte b ≡ true) (take i rest) 0 (λ k l. let m : k < i = omega (arith, length-take-le i rest (omega arith)) in rw (get_or-take i rest k 0 m) (h.2 k 0 (omega arith) m));
+  front = All-from_get_or (λ b. name_byte b ≡ true) (take i bs) 0 (λ k l. let m : k < i = omega (arith, length-take-le i bs (omega arith)) in rw (get_or-take i bs k 0 m) (h.2 k 0 (omega arith) m));
 }
 
-stop_whole : (rest : List ℕ) (i : ℕ) → Stop rest i → rest ≡ take i rest ++ (get_or rest i 0 ∷ drop (i + 1) rest)
-stop_whole rest i s = sym (take-append-drop i rest) ∙ ap (λ t. take i rest ++ t) (drop_more rest i 0 s.within)
+-- the bytes around that place
+end_whole : (rest : List ℕ) (i : ℕ) → NameEnds rest i → rest ≡ take i rest ++ (get_or rest i 0 ∷ drop (i + 1) rest)
+end_whole rest i s = sym (take-append-drop i rest) ∙ ap (λ t. take i rest ++ t) (drop_more rest i 0 s.within)
 
 -- a byte that is no comma either makes the bytes no names
-pub no_comma : (rest : List ℕ) (i : ℕ) → Stop rest i → (get_or rest i 0 ≡ 44 → ⊥) → AllNamed rest → ⊥
+pub no_comma : (rest : List ℕ) (i : ℕ) → NameEnds rest i → (get_or rest i 0 ≡ 44 → ⊥) → AllNamed rest → ⊥
 no_comma rest i s apart a =
     let c = get_or rest i 0 in
-    lacks_cut rest (take i rest) (drop (i + 1) rest) c (subst (Lacks c) (joined_pieces rest) (lacks_joined c s.here (λ e. apart (sym e)) (pieces rest) a)) (stop_whole rest i s)
+    lacks_cut rest (take i rest) (drop (i + 1) rest) c (subst (Lacks c) (joined_pieces rest) (lacks_joined c s.here (λ e. apart (sym e)) (pieces rest) a)) (end_whole rest i s)
 
-first_piece : (rest : List ℕ) (i : ℕ) → Stop rest i → get_or rest i 0 ≡ 44 → pieces rest ≡ take i rest ∷ pieces (drop (i + 1) rest)
+-- a comma there ends the first piece
+first_piece : (rest : List ℕ) (i : ℕ) → NameEnds rest i → get_or rest i 0 ≡ 44 → pieces rest ≡ take i rest ∷ pieces (drop (i + 1) rest)
 first_piece rest i s e =
-    next_name rest (take i rest) (drop (i + 1) rest) (record { whole = stop_whole rest i s ∙ ap (λ b. take i rest ++ (b ∷ drop (i + 1) rest)) e; first = lacks_name 44 refl (take i rest) s.front })
+    next_name rest (take i rest) (drop (i + 1) rest) (record { whole = end_whole rest i s ∙ ap (λ b. take i rest ++ (b ∷ drop (i + 1) rest)) e; first = lacks_name 44 refl (take i rest) s.front })
 
 -- and so does a comma where no name ends
-pub no_length : (rest : List ℕ) (i : ℕ) → Stop rest i → get_or rest i 0 ≡ 44 → ((i ≡ 0) ⊎ (24 < i)) → AllNamed rest → ⊥
+pub no_length : (rest : List ℕ) (i : ℕ) → NameEnds rest i → get_or rest i 0 ≡ 44 → ((i ≡ 0) ⊎ (24 < i)) → AllNamed rest → ⊥
 no_length rest i s e w a =
     let name = (subst (AllByRecursion Name) (first_piece rest i s e) a).0 in
     let long = length-take-le i rest (omega (arith, s.within)) in
     ⊎_elim (λ z. omega (arith, name.some)) (λ z. omega (arith, name.short)) w
 
 -- behind a name and its comma it is for the rest to say
-pub next_same : (bytes rest : List ℕ) (i : ℕ) → SameNaming bytes rest → Stop rest i → get_or rest i 0 ≡ 44 → 0 < i → i ≤ 24 → SameNaming bytes (drop (i + 1) rest)
+pub next_same : (bytes rest : List ℕ) (i : ℕ) → SameNaming bytes rest → NameEnds rest i → get_or rest i 0 ≡ 44 → 0 < i → i ≤ 24 → SameNaming bytes (drop (i + 1) rest)
 next_same bytes rest i same s e some short =
     let long = length-take-le i rest (omega (arith, s.within)) in
     let first = first_piece rest i s e in
@@ -129,11 +124,11 @@ next_same bytes rest i same s e some short =
       back = λ a. same.back (subst (AllByRecursion Name) (sym first) (record { some = omega arith; short = omega arith; bytes = s.front }, a));
     }
 
--- where no byte stops it, the rest is one piece
-pub one_piece : (rest : List ℕ) → AllWithin (λ b. name_byte b ≡ true) rest 0 (length rest) → pieces rest ≡ rest ∷ []
-one_piece rest h =
-    slice_split_none (λ b. eqb b 44) rest (none_is 44 rest (lacks_name 44 refl rest (All-from_get_or (λ b. name_byte b ≡ true) rest 0 (λ k l. h k 0 (omega arith) l))))
+-- name bytes alone are one piece
+pub one_piece : (rest : List ℕ) → NameBytes rest → pieces rest ≡ rest ∷ []
+one_piece rest h = slice_split_none (λ b. eqb b 44) rest (none_is 44 rest (lacks_name 44 refl rest h))
 
+-- what a test of the rest tells of the bytes
 pub told_last : (bytes rest : List ℕ) (r : Bool) → SameNaming bytes rest → pieces rest ≡ rest ∷ [] → Tells (Name rest) r → Tells (AllNamed bytes) r
 told_last bytes rest r same e h = record {
   sound = λ y. same.back (subst (AllByRecursion Name) (sym e) (h.sound y, tt));
@@ -142,8 +137,3 @@ told_last bytes rest r same e h = record {
 
 pub told_no : (bytes rest : List ℕ) → SameNaming bytes rest → (AllNamed rest → ⊥) → Tells (AllNamed bytes) false
 told_no bytes rest same bad = record { sound = λ y. cc; full = λ a. absurd (bad (same.forth a)) }
-
--- what `position` says of where a name may end
-abbrev pub IsStop : List ℕ → Option ℕ → Type 0
-IsStop rest r =
-    MatchOption r (AllWithin (λ b. name_byte b ≡ true) rest 0 (length rest)) (λ i. (i < length rest) × HoldsAt (λ b. name_byte b ≡ false) rest i × AllWithin (λ b. name_byte b ≡ true) rest 0 i)

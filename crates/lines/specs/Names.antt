@@ -1,7 +1,7 @@
 -- A name, a list of names, and the spelling of such a list.
-use Rattle.std.specs.Prelude.{◌≡◌, ℕ, ◌<◌, ◌≤◌, Bool, true, ◌||◌, List, [], length, get_or, ◌==◌, ◌≢◌, slice_index_or}
+use Rattle.std.specs.Prelude.{◌≡◌, ℕ, ◌<◌, ◌≤◌, Bool, true, false, ◌||◌, List, [], length, take, get_or, ◌==◌, ◌≢◌, slice_index_or}
 use Rattle.std.specs.Char.{is_ascii_digit, is_ascii_alphabetic}
-use Rattle.std.specs.List.{All, join_with_byte, slice_split}
+use Rattle.std.specs.List.{All, AllByRecursion, join_with_byte, slice_split}
 
 -- a letter, a digit, `-` or `_`
 abbrev pub name_byte : ℕ → Bool
@@ -23,6 +23,16 @@ joined ns = join_with_byte 44 ns
 -- the pieces between the commas
 abbrev pub pieces : List ℕ → List (List ℕ)
 pieces bs = slice_split (λ b. b == 44) bs
+
+-- the pieces between the commas are names
+abbrev pub AllNamed : List ℕ → Type 0
+AllNamed bs = AllByRecursion Name (pieces bs)
+
+-- the bytes before place i can be of a name, and the one there cannot
+pub record NameEnds (bs : List ℕ) (i : ℕ) : Type 0 where
+  pub within : i < length bs
+  pub here : name_byte (get_or bs i 0) ≡ false
+  pub front : NameBytes (take i bs)
 
 -- the name is in the list for the first time at place i
 pub record FirstAt (ns : List (List ℕ)) (name : List ℕ) (i : ℕ) : Type 0 where

@@ -1,8 +1,7 @@
 // Names: 1 to 24 letters, digits, `-` or `_`.
-ghost use Rattle.std.specs.Prelude.{◌≡◌};
+ghost use Rattle.std.specs.Prelude.{◌≡◌, MatchOption};
 ghost use Rattle.weighing.specs.Tests.{Tells};
-ghost use Rattle.std.specs.List.{AllByRecursion};
-ghost use Rattle.lines.specs.Names.{name_byte, Name, pieces};
+ghost use Rattle.lines.specs.Names.{name_byte, NameBytes, Name, NameEnds, AllNamed};
 
 // The most bytes that a name has.
 const LONGEST: usize = 24;
@@ -20,13 +19,20 @@ pub fn is_name(bytes: &[u8]) -> bool
     !bytes.is_empty() && bytes.len() <= LONGEST && bytes.iter().all(|b| is_name_byte(*b))
 }
 
+// The place of the first byte that no name has, if there is one.
+fn name_end(bytes: &[u8]) -> Option<usize>
+    ensures { MatchOption result (NameBytes bytes.now) (λ i. NameEnds bytes.now i) }
+{
+    bytes.iter().position(|b| !is_name_byte(*b))
+}
+
 // Whether the bytes are names with commas between. It goes on only as far as a byte that no name has: a split at the
 // commas would look for the next comma first, however far that is.
 pub(crate) fn are_names(bytes: &[u8]) -> bool
-    ensures { Tells (AllByRecursion Name (pieces bytes.now)) result }
+    ensures { Tells (AllNamed bytes.now) result }
 {
     let mut rest = bytes;
-    while let Some(i) = rest.iter().position(|b| !is_name_byte(*b)) {
+    while let Some(i) = name_end(rest) {
         if rest[i] != b',' || i == 0 || i > LONGEST {
             return false;
         }

@@ -2,9 +2,10 @@
 ghost use Rattle.std.specs.Prelude.{ℕ, MatchOption};
 ghost use Rattle.lines.specs.Numbers.{Spelled};
 
-// The largest number of the format, and how many digits it has.
+// The largest number of the format.
 const MOST: u32 = 1_000_000;
 
+// How many digits that number has.
 const LONGEST: usize = 7;
 
 // The number that the bytes spell, if they spell one.
@@ -14,7 +15,7 @@ pub fn read_number(bytes: &[u8]) -> Option<u32>
     match bytes {
         // `parse` reads these, and the format does not have them.
         [b'0', _, ..] | [b'+', ..] => None,
-        // More digits than the largest number has are not gone through.
+        // More bytes than that are refused without going through them.
         _ if bytes.len() > LONGEST => None,
         _ => {
             let digits = str::from_utf8(bytes).ok()?;
